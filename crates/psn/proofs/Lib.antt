@@ -1,0 +1,2 @@
+-- Laws of the circle.
+pub mod Circle

@@ -1,0 +1,2 @@
+-- The circle of packet numbers.
+pub mod Psn

@@ -1,0 +1,90 @@
+-- The bits of a row, word by word: position p is bit p % 64 of word p / 64. Assumes nothing.
+use mathlib.Core.Path.{_≡_, sym, ap, ap₂, _∙_}
+use mathlib.Core.Bool.{Bool, false}
+use mathlib.Core.List.{List}
+use Prim.Native.Nat.{ℕ, _+_, _-_, _*_, _/_, _%_, _^_, _≤_, _<_}
+use native.Mathlib.Omega.{arith}
+use native.Mathlib.Decide.{ℕ-discrete, decLt}
+use lib.Dec.{eqb}
+use lib.ListN.{length, getD, set, List·getD-eq-default}
+use lib.Seq.{getD-set-same, getD-set-other, ext-getD}
+use borrow.Author.Tests.{eq-eqb, ne-eqb, lt-ltb, le-ltb}
+use Rattle.word.specs.Index.{tally}
+use Rattle.word.specs.Word.{bitAt, Bits, bitOfTwo}
+use Rattle.word.proofs.Index.{total-add, weigh-same}
+use Rattle.word.proofs.Bits.{bit-none, bits-one}
+use Rattle.row.specs.Row.{at, bits, Row}
+
+-- ---- one bit
+-- bit b of word j
+pub at-word : (ws : List ℕ) (j b : ℕ) → b < 64 → at ws (64 * j + b) ≡ bitAt (getD ws j 0) b
+unfolding at
+at-word ws j b h =
+    let q : (64 * j + b) / 64 ≡ j = omega arith in
+    let r : (64 * j + b) % 64 ≡ b = omega arith in
+    ap₂ (λ (x y : ℕ). bitAt (getD ws x 0) y) q r
+
+-- no bit past the end
+pub at-past : (ws : List ℕ) (p : ℕ) → bits ws ≤ p → at ws p ≡ false
+unfolding at
+at-past ws p h = ap (λ (w : ℕ). bitAt w (p % 64)) (List·getD-eq-default ws 0 (omega arith)) ∙ bit-none (p % 64)
+
+-- the 64 bits from p on lie in two words
+pub at-two : (ws : List ℕ) (p i : ℕ) → i < 64 → at ws (p + i) ≡ bitOfTwo (getD ws (p / 64) 0) (getD ws (p / 64 + 1) 0) (p % 64 + i)
+at-two ws p i h = pick (decLt (p % 64 + i) 64)
+  where
+    pick : Dec (p % 64 + i < 64) → at ws (p + i) ≡ bitOfTwo (getD ws (p / 64) 0) (getD ws (p / 64 + 1) 0) (p % 64 + i)
+    pick (yes l) =
+        let e : p + i ≡ 64 * (p / 64) + (p % 64 + i) = omega arith in
+        rw (lt-ltb (p % 64 + i) 64 l) (ap (at ws) e ∙ at-word ws (p / 64) (p % 64 + i) l)
+    pick (no l) =
+        let e : p + i ≡ 64 * (p / 64 + 1) + (p % 64 + i - 64) = omega arith in
+        rw (le-ltb (p % 64 + i) 64 (omega arith)) (ap (at ws) e ∙ at-word ws (p / 64 + 1) (p % 64 + i - 64) (omega arith))
+
+-- ---- a row by its words
+pub row-word : (ws : List ℕ) (f : ℕ → Bool) → Row ws f → (j : ℕ) → Bits (getD ws j 0) (λ b. f (64 * j + b))
+row-word ws f h j b l = sym (at-word ws j b l) ∙ h (64 * j + b)
+
+pub row-words : (ws : List ℕ) (f : ℕ → Bool) → ((j : ℕ) → Bits (getD ws j 0) (λ b. f (64 * j + b))) → Row ws f
+row-words ws f h p =
+    let e : p ≡ 64 * (p / 64) + p % 64 = omega arith in
+    let l : p % 64 < 64 = omega arith in
+    ap (at ws) e ∙ at-word ws (p / 64) (p % 64) l ∙ h (p / 64) (p % 64) l ∙ sym (ap f e)
+
+-- two rows of one length with the same bits are one
+pub row-one : (vs ws : List ℕ) (f : ℕ → Bool) → length vs ≡ length ws
+    → ((j : ℕ) → j < length vs → getD vs j 0 < 2 ^ 64) → ((j : ℕ) → j < length ws → getD ws j 0 < 2 ^ 64)
+    → Row vs f → Row ws f → vs ≡ ws
+row-one vs ws f e small small′ h h′ =
+    ext-getD 0 vs ws e
+    (λ j l. bits-one (getD vs j 0) (getD ws j 0) (λ b. f (64 * j + b)) (small j l) (small′ j (omega arith)) (row-word vs f h j) (row-word ws f h′ j))
+
+-- ---- one word replaced
+pub row-set : (ws : List ℕ) (j v : ℕ) (f : ℕ → Bool) → j < length ws → Bits v (λ b. f (64 * j + b))
+    → ((p : ℕ) → (p / 64 ≡ j → ⊥) → at ws p ≡ f p) → Row (set ws j v) f
+row-set ws j v f h new old = row-words (set ws j v) f (λ k. pick k (ℕ-discrete k j))
+  where
+    pick : (k : ℕ) → Dec (k ≡ j) → Bits (getD (set ws j v) k 0) (λ b. f (64 * k + b))
+    pick k (yes e) b l =
+        ap (λ (x : ℕ). bitAt (getD (set ws j v) x 0) b) e ∙ ap (λ (w : ℕ). bitAt w b) (getD-set-same ws j v 0 h)
+        ∙ new b l ∙ ap (λ (x : ℕ). f (64 * x + b)) (sym e)
+    pick k (no n) b l = ap (λ (w : ℕ). bitAt w b) (getD-set-other ws j k v 0 n) ∙ sym (at-word ws k b l) ∙ old (64 * k + b) (λ e. n (omega arith))
+
+-- bit p joined to the row by an operation that a clear bit leaves alone
+pub row-put : (op : Bool → Bool → Bool) → ((b : Bool) → op b false ≡ b) → (ws : List ℕ) (p v : ℕ) → p / 64 < length ws
+    → Bits v (λ b. op (bitAt (getD ws (p / 64) 0) b) (eqb b (p % 64))) → Row (set ws (p / 64) v) (λ k. op (at ws k) (eqb k p))
+row-put op idle ws p v h new =
+    row-set ws (p / 64) v (λ k. op (at ws k) (eqb k p)) h
+    (λ b l. new b l ∙ ap₂ op (sym (at-word ws (p / 64) b l)) (here b l (ℕ-discrete b (p % 64))))
+    (λ k n. sym (ap (op (at ws k)) (ne-eqb k p (λ e. n (ap (λ (x : ℕ). x / 64) e))) ∙ idle (at ws k)))
+  where
+    here : (b : ℕ) → b < 64 → Dec (b ≡ p % 64) → eqb b (p % 64) ≡ eqb (64 * (p / 64) + b) p
+    here b l (yes e) = eq-eqb b (p % 64) e ∙ sym (eq-eqb (64 * (p / 64) + b) p (omega arith))
+    here b l (no e) = ne-eqb b (p % 64) e ∙ sym (ne-eqb (64 * (p / 64) + b) p (λ q. e (omega arith)))
+
+-- ---- counts
+-- what passes below the end of word j
+pub tally-word : (f g : ℕ → Bool) (j : ℕ) → ((b : ℕ) → b < 64 → f (64 * j + b) ≡ g b) → tally (64 * (j + 1)) f ≡ tally (64 * j) f + tally 64 g
+tally-word f g j h =
+    let e : 64 * (j + 1) ≡ 64 * j + 64 = omega arith in
+    ap (λ (n : ℕ). tally n f) e ∙ total-add (64 * j) 64 _ ∙ ap (λ (x : ℕ). tally (64 * j) f + x) (weigh-same 64 _ _ _ h)

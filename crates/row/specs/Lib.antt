@@ -1,0 +1,2 @@
+-- The bits of a row of words.
+pub mod Row

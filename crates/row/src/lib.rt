@@ -1,0 +1,128 @@
+// A row of 64-bit words, any number of them, by its bits. A bit past the end reads clear and is not written.
+ghost use mathlib.Core.Path.{_≡_};
+ghost use Prim.Native.Nat.{_+_, _-_, _*_, _≤_};
+ghost use lib.ListN.{length, getD};
+ghost use Rattle.word.specs.Index.{First, tally};
+ghost use Rattle.word.specs.Word.{Bits, inRange};
+ghost use Rattle.row.specs.Row.{at as bitOf, bits, Becomes, withBit, withoutBit, isClear, onlyIn, longest};
+
+// Word j, 0 past the end.
+pub fn word_at(ws: &[u64], j: usize) -> u64
+    ensures { λ r. ⌜ r ≡ getD (now (ws .entry)) j 0 ⌝ }
+{
+    if j < ws.len() {
+        return ws[j];
+    }
+    0
+}
+
+// Whether bit p is set.
+pub fn test(ws: &[u64], p: u32) -> bool
+    ensures { λ r. ⌜ r ≡ bitOf (now (ws .entry)) p ⌝ }
+{
+    let j = (p / 64) as usize;
+    word::test(word_at(ws, j), p)
+}
+
+// Bit p is set.
+pub fn set(ws: &mut [u64], p: u32)
+    ensures { λ r. ⌜ Becomes (now (ws .entry)) (now (ws .exit)) (withBit (now (ws .entry)) p) ⌝ }
+{
+    let j = (p / 64) as usize;
+    if j < ws.len() {
+        ws[j] = word::set(ws[j], p);
+    }
+}
+
+// Bit p is cleared.
+pub fn clear(ws: &mut [u64], p: u32)
+    ensures { λ r. ⌜ Becomes (now (ws .entry)) (now (ws .exit)) (withoutBit (now (ws .entry)) p) ⌝ }
+{
+    let j = (p / 64) as usize;
+    if j < ws.len() {
+        ws[j] = word::clear(ws[j], p);
+    }
+}
+
+// Word j of the row whose bits from a up to, and not with, b are set, and no others.
+pub fn range(j: u32, a: u32, b: u32) -> u64
+    ensures { λ r. ⌜ Bits r (λ i. inRange a b (64 * j + i)) ⌝ }
+{
+    word::range(from_word(j, a), from_word(j, b))
+}
+
+// How far a lies past the first bit of word j: 0 where it does not.
+fn from_word(j: u32, a: u32) -> u32
+    ensures { λ r. ⌜ r ≡ a - 64 * j ⌝ }
+{
+    if a / 64 < j {
+        return 0;
+    }
+    a - 64 * j
+}
+
+// The 64 bits from bit p on.
+pub fn block(ws: &[u64], p: u32) -> u64
+    ensures { λ r. ⌜ Bits r (λ i. bitOf (now (ws .entry)) (p + i)) ⌝ }
+{
+    let j = (p / 64) as usize;
+    word::across(word_at(ws, j), word_at(ws, j + 1), p)
+}
+
+// How many set bits stand below the lowest clear one, n at the most.
+pub fn run(ws: &[u64], n: u32) -> u32
+    ensures { λ r. ⌜ First (isClear (now (ws .entry))) n r ⌝ }
+{
+    let mut p: u32 = 0;
+    while p < n {
+        if !test(ws, p) {
+            return p;
+        }
+        p += 1;
+    }
+    n
+}
+
+// The q lowest words go, and the others move down.
+pub fn shed(ws: &mut [u64], q: usize)
+    ensures { λ r. ⌜ Becomes (now (ws .entry)) (now (ws .exit)) (λ p. bitOf (now (ws .entry)) (64 * q + p)) ⌝ }
+{
+    let n = ws.len();
+    let mut i: usize = 0;
+    while i < n {
+        if q < n - i {
+            ws[i] = ws[q + i];
+        } else {
+            ws[i] = 0;
+        }
+        i += 1;
+    }
+}
+
+// How many bits are set.
+pub fn ones(ws: &[u64]) -> u32
+    requires { ⌜ length (now ws) ≤ longest ⌝ }
+    ensures { λ r. ⌜ r ≡ tally (bits (now (ws .entry))) (bitOf (now (ws .entry))) ⌝ }
+{
+    let mut sum: u32 = 0;
+    let mut j: usize = 0;
+    while j < ws.len() {
+        sum += word::ones(ws[j]);
+        j += 1;
+    }
+    sum
+}
+
+// How many bits of vs are set that are clear in ws.
+pub fn newly(vs: &[u64], ws: &[u64]) -> u32
+    requires { ⌜ length (now vs) ≤ longest ⌝ }
+    ensures { λ r. ⌜ r ≡ tally (bits (now (vs .entry))) (onlyIn (now (vs .entry)) (now (ws .entry))) ⌝ }
+{
+    let mut sum: u32 = 0;
+    let mut j: usize = 0;
+    while j < vs.len() {
+        sum += word::newly(vs[j], word_at(ws, j));
+        j += 1;
+    }
+    sum
+}

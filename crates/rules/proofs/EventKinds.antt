@@ -1,0 +1,77 @@
+-- A kind with its fields and the event that it makes undo one another, by the eight kinds. Assumes nothing.
+use mathlib.Core.Path.{_≡_, refl, sym, ap, _∙_}
+use mathlib.Core.Bool.{true}
+use mathlib.Core.List.{List, [], _∷_}
+use Prim.Native.Nat.{ℕ, zero, suc, _+_, _≤_, _<_}
+use native.Mathlib.Omega.{arith}
+use borrow.Author.Tests.{ltb-true, leb-true}
+use lib.Dec.{leb, ltb}
+use lib.ListN.{length, getD, drop, drop-of-length-le}
+use lib.Seq.{drop-cons}
+use Rattle.rules.specs.Paper.{kindOf, fieldsOf}
+use Rattle.rules.specs.Log.{layouts, widths, kind-ok, eventOf}
+use Rattle.rules.specs.declared.Event.{Event}
+use Rattle.rules.specs.declared.Event.the-variants as event
+use Rattle.rules.proofs.Joined.{and-true-each}
+
+pub known-kind : (e : Event) → kind-ok (kindOf e) ≡ true
+unfolding kindOf layouts
+known-kind (event.Start a b c d) = refl
+known-kind event.Close = refl
+known-kind (event.Send z) = refl
+known-kind (event.Arrive a) = refl
+known-kind (event.Sack c b) = refl
+known-kind (event.Nack p n) = refl
+known-kind (event.Timer p) = refl
+known-kind event.Resend = refl
+
+pub event-again : (e : Event) → eventOf (kindOf e) (fieldsOf e) ≡ e
+unfolding kindOf fieldsOf eventOf
+event-again (event.Start a b c d) = refl
+event-again event.Close = refl
+event-again (event.Send z) = refl
+event-again (event.Arrive a) = refl
+event-again (event.Sack c b) = refl
+event-again (event.Nack p n) = refl
+event-again (event.Timer p) = refl
+event-again event.Resend = refl
+
+known-range : (k : ℕ) → kind-ok k ≡ true → (1 ≤ k) × (k < 9)
+unfolding layouts
+known-range k o = let h = and-true-each (leb 1 k) (ltb k 9) o in (leb-true 1 k (h .0), ltb-true k 9 (h .1))
+
+-- a kind that is known is one of the eight
+by-kind : (P : ℕ → Type 0) → P 1 → P 2 → P 3 → P 4 → P 5 → P 6 → P 7 → P 8 → (k : ℕ) → kind-ok k ≡ true → P k
+by-kind P a b c d e f g h zero o = absurd (omega (arith, known-range 0 o))
+by-kind P a b c d e f g h (suc zero) o = a
+by-kind P a b c d e f g h (suc (suc zero)) o = b
+by-kind P a b c d e f g h (suc (suc (suc zero))) o = c
+by-kind P a b c d e f g h (suc (suc (suc (suc zero)))) o = d
+by-kind P a b c d e f g h (suc (suc (suc (suc (suc zero))))) o = e
+by-kind P a b c d e f g h (suc (suc (suc (suc (suc (suc zero)))))) o = f
+by-kind P a b c d e f g h (suc (suc (suc (suc (suc (suc (suc zero))))))) o = g
+by-kind P a b c d e f g h (suc (suc (suc (suc (suc (suc (suc (suc zero)))))))) o = h
+by-kind P a b c d e f g h (suc (suc (suc (suc (suc (suc (suc (suc (suc k))))))))) o = absurd (omega (arith, known-range (suc (suc (suc (suc (suc (suc (suc (suc (suc k))))))))) o))
+
+pub kind-again : (k : ℕ) (l : List ℕ) → kind-ok k ≡ true → kindOf (eventOf k l) ≡ k
+unfolding eventOf kindOf
+kind-again k l o = by-kind (λ n. kindOf (eventOf n l) ≡ n) refl refl refl refl refl refl refl refl k o
+
+-- the n elements from place i on
+listed : List ℕ → ℕ → ℕ → List ℕ
+listed l i zero = []
+listed l i (suc n) = getD l i 0 ∷ listed l (suc i) n
+
+listed-all : (l : List ℕ) (i n : ℕ) → i + n ≡ length l → listed l i n ≡ drop i l
+unfolding listed
+listed-all l i zero h = sym (drop-of-length-le l {i = i} (omega arith))
+listed-all l i (suc n) h = ap (λ (t : List ℕ). getD l i 0 ∷ t) (listed-all l (suc i) n (omega arith)) ∙ sym (drop-cons l i 0 (omega arith))
+
+pub fields-again : (k : ℕ) (l : List ℕ) → kind-ok k ≡ true → length l ≡ length (widths k) → fieldsOf (eventOf k l) ≡ l
+unfolding eventOf fieldsOf widths layouts listed
+fields-again k l o =
+    by-kind (λ n. length l ≡ length (widths n) → fieldsOf (eventOf n l) ≡ l)
+    (all 4) (all 0) (all 1) (all 4) (all 3) (all 2) (all 1) (all 0) k o
+  where
+    all : (n : ℕ) → length l ≡ n → listed l 0 n ≡ l
+    all n h = listed-all l 0 n (omega arith)

@@ -1,0 +1,21 @@
+-- The theorems over the definitions.
+pub mod Unfold
+pub mod Starred
+pub mod Joined
+pub mod Lists
+pub mod Outcomes
+pub mod Receives
+pub mod Sends
+pub mod Runs
+pub mod Slots
+pub mod Slips
+pub mod Spelling
+pub mod Fields
+pub mod EventKinds
+pub mod Records
+pub mod Reading
+pub mod Writing
+pub mod RoundTrip
+pub mod Replays
+pub mod Apart
+pub mod Settled

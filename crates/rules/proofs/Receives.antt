@@ -1,0 +1,52 @@
+-- What the receiving side always has, it keeps: an arrival that is accepted slides the window to its first open entry, and any other
+-- changes nothing. Assumes nothing.
+use mathlib.Core.Path.{_≡_, ap, _∙_}
+use mathlib.Core.Bool.{true, false}
+use Prim.Native.Nat.{ℕ, _<_}
+use native.Mathlib.Omega.{arith}
+use lib.ListN.{getD, set, length-set, length-replicate}
+use Rattle.psn.proofs.Circle.{after-lt}
+use Rattle.rules.specs.Numbers.{turn, distance, room-ok}
+use Rattle.rules.specs.Lists.{lead}
+use Rattle.rules.specs.Receiver.{Receiver, fresh, arrive, verdict, judged, accept}
+use Rattle.rules.specs.Kept.{Receives}
+use Rattle.rules.specs.declared.Arrival.{Arrival}
+use Rattle.rules.specs.declared.Verdict.{Verdict}
+use Rattle.rules.specs.declared.Verdict.the-variants.{Fresh, Known, Beyond, NoBuffer, Trim, TrimLastHop}
+use Rattle.rules.proofs.Lists.{lead-false, lead-le, getD-alike, getD-slide, length-slide}
+use Rattle.rules.proofs.Outcomes.{After, after-refuse, after-done}
+
+pub receives-fresh : (n p : ℕ) → room-ok n ≡ true → p < turn → Receives (fresh n p)
+unfolding fresh
+receives-fresh n p h l = record {
+  room-good = ap room-ok (length-replicate n false) ∙ h;
+  expected-low = l;
+  expected-open = getD-alike false n 0;
+  count-low = omega arith;
+}
+
+pub receives-accept : (r : Receiver) (a : Arrival) → Receives r → Receives (accept r a)
+unfolding accept
+receives-accept r a k =
+    let w = set (r .window) (distance (r .expected) (a .psn .0)) true in
+    record {
+      room-good = ap room-ok (length-slide (lead w) w (lead-le w) ∙ length-set (r .window) _ true) ∙ k .room-good;
+      expected-low = after-lt (r .expected) (lead w);
+      expected-open = getD-slide (lead w) w 0 ∙ ap (λ (i : ℕ). getD w i false) (omega arith) ∙ lead-false w;
+      count-low = omega arith;
+    }
+
+receives-judged : (r : Receiver) (a : Arrival) (v : Verdict) → Receives r → After Receives r (judged r a v)
+unfolding judged
+receives-judged r a Fresh k = after-done Receives r _ _ (receives-accept r a k)
+receives-judged r a Known k = after-done Receives r _ _ k
+receives-judged r a Beyond k = after-done Receives r _ _ k
+receives-judged r a NoBuffer k = after-done Receives r _ _ k
+receives-judged r a Trim k = after-done Receives r _ _ k
+receives-judged r a TrimLastHop k = after-done Receives r _ _ k
+
+pub receives-arrive : (r : Receiver) (a : Arrival) → Receives r → After Receives r (arrive r a)
+unfolding arrive
+receives-arrive r a k =
+    after-refuse Receives r _ _ _ k λ _. after-refuse Receives r _ _ _ k λ _. after-refuse Receives r _ _ _ k λ _. after-refuse Receives r _ _ _ k λ _.
+    receives-judged r a (verdict r a) k

@@ -1,0 +1,149 @@
+-- What the sending side always has, it keeps: a send adds an entry that is neither retired nor marked, a SACK drops the retired from the
+-- front, and a mark is set only where nothing is retired. Assumes nothing.
+use mathlib.Core.Path.{_≡_, refl, ap, _∙_}
+use mathlib.Core.Bool.{Bool, true, false, not, cond, _&&_, false≢true}
+use mathlib.Core.List.{List, [], _∷_, _++_, map}
+use Prim.Native.Nat.{ℕ, zero, suc, _≤_}
+use native.Mathlib.Omega.{arith}
+use lib.Dec.{leb}
+use lib.ListN.{length, getD, drop, length-append, length-drop}
+use lib.Seq.{getD-drop}
+use borrow.Author.Tests.{leb-false, not-false}
+use Rattle.psn.specs.declared.Psn.{Psn}
+use Rattle.psn.proofs.Circle.{after-lt}
+use Rattle.rules.specs.Numbers.{room-ok, size-ok}
+use Rattle.rules.specs.Lists.{lead, update}
+use Rattle.rules.specs.Sender.{Entry, Sender, fresh, send, with-entries, new, index}
+use Rattle.rules.specs.Retire.{retire, retired, is-retired, settle, named, after-sack, sack}
+use Rattle.rules.specs.Marks.{mark, markable, with-mark, nack, timer, resend, nearest}
+use Rattle.rules.specs.Kept.{All, Held, Sends}
+use Rattle.rules.specs.declared.Block.{Block}
+use Rattle.rules.specs.declared.Answer.{Answer}
+use Rattle.rules.specs.declared.Answer.the-variants as answer
+use Rattle.rules.proofs.Lists.{lead-false, length-update, map-update, all-update, all-snoc, all-drop}
+use Rattle.rules.proofs.Outcomes.{After, after-refuse, after-cond, after-done}
+
+pub sends-fresh : (n p : ℕ) → room-ok n ≡ true → Sends (fresh n p)
+unfolding fresh All
+sends-fresh n p h = record {
+  room-good = h;
+  place-low = after-lt p _;
+  room-left = omega arith;
+  first-open = refl;
+  entries-held = tt;
+}
+
+first-of-more : (l m : List Entry) → getD (map is-retired l) 0 false ≡ false → getD (map is-retired m) 0 false ≡ false → getD (map is-retired (l ++ m)) 0 false ≡ false
+first-of-more [] m h k = k
+first-of-more (e ∷ l) m h k = h
+
+sends-new : (x : Sender) (size : ℕ) → Sends x → size-ok size ≡ true → leb (x .room) (length (x .entries)) ≡ false
+    → Sends (with-entries x (x .entries ++ (new size ∷ [])))
+unfolding with-entries
+sends-new x size k z l = record {
+  room-good = k .room-good;
+  place-low = k .place-low;
+  room-left = simp length-append (omega (arith, leb-false (x .room) (length (x .entries)) l));
+  first-open = first-of-more (x .entries) (new size ∷ []) (k .first-open) refl;
+  entries-held = all-snoc Held (x .entries) (new size) (k .entries-held) (record { size-good = z; not-both = refl });
+}
+
+pub sends-send : (x : Sender) (size : ℕ) → Sends x → After Sends x (send x size)
+unfolding send
+sends-send x size k =
+    after-refuse Sends x _ _ _ k λ _. after-refuse Sends x _ _ _ k λ z. after-refuse Sends x _ _ _ k λ l.
+    after-done Sends x _ _ (sends-new x size k (not-false (size-ok size) z) l)
+
+-- retiring: the place stops at the first that is not retired
+held-retired : (b : Bool) (e : Entry) → Held e → Held (cond b (retired e) e)
+held-retired true e h = record { size-good = h .size-good; not-both = refl }
+held-retired false e h = h
+
+all-retire : (f : ℕ → Bool) (l : List Entry) → All Held l → All Held (retire f l)
+unfolding All retire
+all-retire f [] h = h
+all-retire f (e ∷ l) h = (held-retired (f zero) e (h .0), all-retire (λ i. f (suc i)) l (h .1))
+
+pub length-retire : (f : ℕ → Bool) (l : List Entry) → length (retire f l) ≡ length l
+unfolding retire
+length-retire f [] = refl
+length-retire f (e ∷ l) = ap suc (length-retire (λ i. f (suc i)) l)
+
+map-drop : (k : ℕ) (l : List Entry) → map is-retired (drop k l) ≡ drop k (map is-retired l)
+map-drop zero l = refl
+map-drop (suc k) [] = refl
+map-drop (suc k) (e ∷ l) = map-drop k l
+
+sends-settle : (x : Sender) (l : List Entry) → Sends x → length l ≤ x .room → All Held l → Sends (settle x l)
+unfolding settle
+sends-settle x l k n h =
+    let m = lead (map is-retired l) in
+    record {
+      room-good = k .room-good;
+      place-low = after-lt (x .place) m;
+      room-left = simp length-drop (omega arith);
+      first-open = ap (λ (bs : List Bool). getD bs 0 false) (map-drop m l) ∙ getD-drop m (map is-retired l) 0 false
+          ∙ ap (λ (i : ℕ). getD (map is-retired l) i false) (omega arith) ∙ lead-false (map is-retired l);
+      entries-held = all-drop Held m l h;
+    }
+
+pub sends-sack : (x : Sender) (cack : Psn) (b : Block) → Sends x → After Sends x (sack x cack b)
+unfolding sack after-sack
+sends-sack x cack b k =
+    after-refuse Sends x _ _ _ k λ _. after-refuse Sends x _ _ _ k λ _. after-refuse Sends x _ _ _ k λ _.
+    after-done Sends x _ _ (sends-settle x _ k (omega (arith, length-retire (named x (cack .0) b) (x .entries), k .room-left)) (all-retire _ (x .entries) (k .entries-held)))
+
+-- marks: one is set only where nothing is retired, and may be taken anywhere
+held-mark : (e : Entry) → markable e ≡ true → Held e → Held (with-mark true e)
+held-mark e m h = record { size-good = h .size-good; not-both = go (e .retired) m }
+  where
+    go : (b : Bool) → (not b && not (e .marked)) ≡ true → (b && true) ≡ false
+    go true n = absurd (false≢true n)
+    go false n = refl
+
+all-mark : (l : List Entry) (i : ℕ) → getD (map markable l) i false ≡ true → All Held l → All Held (update (with-mark true) l i)
+unfolding All update
+all-mark [] i m h = h
+all-mark (e ∷ l) zero m h = (held-mark e m (h .0), h .1)
+all-mark (e ∷ l) (suc i) m h = (h .0, all-mark l i m (h .1))
+
+held-unmark : (e : Entry) → Held e → Held (with-mark false e)
+held-unmark e h = record { size-good = h .size-good; not-both = go (e .retired) }
+  where
+    go : (b : Bool) → (b && false) ≡ false
+    go true = refl
+    go false = refl
+
+sends-marks : (x : Sender) (b : Bool) (i : ℕ) → Sends x → All Held (update (with-mark b) (x .entries) i) → Sends (with-entries x (update (with-mark b) (x .entries) i))
+unfolding with-entries
+sends-marks x b i k h = record {
+  room-good = k .room-good;
+  place-low = k .place-low;
+  room-left = omega (arith, length-update (with-mark b) (x .entries) i, k .room-left);
+  first-open = ap (λ (bs : List Bool). getD bs 0 false) (map-update is-retired (with-mark b) (x .entries) i (λ e. refl)) ∙ k .first-open;
+  entries-held = h;
+}
+
+sends-mark : (tell : ℕ → Answer) (x : Sender) (p : ℕ) → Sends x → After Sends x (mark tell x p)
+unfolding mark
+sends-mark tell x p k =
+    after-cond Sends x (getD (map markable (x .entries)) (index x p) false) _ _
+    (λ m. after-done Sends x _ _ (sends-marks x true (index x p) k (all-mark (x .entries) (index x p) m (k .entries-held))))
+    (λ m. after-done Sends x _ _ k)
+
+pub sends-timer : (x : Sender) (p : Psn) → Sends x → After Sends x (timer x p)
+unfolding timer
+sends-timer x p k =
+    after-refuse Sends x _ _ _ k λ _. after-refuse Sends x _ _ _ k λ _. after-refuse Sends x _ _ _ k λ _. sends-mark answer.Expired x (p .0) k
+
+pub sends-nack : (x : Sender) (p : Psn) (reason : ℕ) → Sends x → After Sends x (nack x p reason)
+unfolding nack
+sends-nack x p reason k =
+    after-refuse Sends x _ _ _ k λ _. after-refuse Sends x _ _ _ k λ _. after-refuse Sends x _ _ _ k λ _. after-refuse Sends x _ _ _ k λ _.
+    after-cond Sends x (leb reason 4) _ _ (λ _. sends-mark answer.Marked x (p .0) k) (λ _. after-done Sends x _ _ k)
+
+pub sends-resend : (x : Sender) → Sends x → After Sends x (resend x)
+unfolding resend
+sends-resend x k =
+    after-refuse Sends x _ _ _ k λ _. after-refuse Sends x _ _ _ k λ _.
+    after-done Sends x _ _ (sends-marks x false (nearest x) k (all-update Held (with-mark false) (x .entries) (nearest x) held-unmark (k .entries-held)))

@@ -1,0 +1,68 @@
+-- 01, Numbers of the trade, and which numbers an event may carry. Packet numbers themselves are those of the crate psn.
+use mathlib.Core.Bool.{Bool, not, _&&_}
+use Prim.Native.Nat.{ℕ, _%_, _^_}
+use lib.Dec.{leb, ltb, eqb}
+use Rattle.word.specs.Word.{bitAt}
+pub use Rattle.psn.specs.Psn.{turn, half, before, behind}
+unfoldable pub use Rattle.psn.specs.Psn.{after, distance}
+use Rattle.psn.specs.declared.Psn.{Psn}
+
+-- "5: a PSN above 16,777,215"
+abbrev pub psn-ok : Psn → Bool
+psn-ok p = ltb (p .0) turn
+
+-- a packet number as the code holds it
+abbrev pub psn : ℕ → Psn
+psn n = record { 0 = n }
+
+-- "Room: .. 64 to 512, a multiple of 64"
+abbrev pub least-room : ℕ
+least-room = 64
+
+abbrev pub largest-room : ℕ
+largest-room = 512
+
+unfoldable pub room-ok : ℕ → Bool
+room-ok r = leb least-room r && leb r largest-room && eqb (r % least-room) 0
+
+-- "Packet size: .. Accepted from 48 to 9,216"
+abbrev pub least-size : ℕ
+least-size = 48
+
+abbrev pub largest-size : ℕ
+largest-size = 9216
+
+unfoldable pub size-ok : ℕ → Bool
+size-ok z = leb least-size z && leb z largest-size
+
+-- 01, The receiving side: "bit 0 ECN mark, bit 1 RTX, bit 2 trimmed, bit 3 trimmed at last hop, bit 4 no buffer"
+abbrev pub ecn : ℕ → Bool
+ecn f = bitAt f 0
+
+abbrev pub rtx : ℕ → Bool
+rtx f = bitAt f 1
+
+abbrev pub trimmed : ℕ → Bool
+trimmed f = bitAt f 2
+
+abbrev pub trimmed-last-hop : ℕ → Bool
+trimmed-last-hop f = bitAt f 3
+
+abbrev pub no-buffer : ℕ → Bool
+no-buffer f = bitAt f 4
+
+-- "14: any of flag bits 5 to 7 set, or bits 2 and 3 both"
+unfoldable pub flags-ok : ℕ → Bool
+flags-ok f = ltb f (2 ^ 5) && not (trimmed f && trimmed-last-hop f)
+
+-- "15: NACK reason not 1 to 6"
+unfoldable pub reason-ok : ℕ → Bool
+reason-ok n = leb 1 n && leb n 6
+
+-- 01, What the card keeps: "of which the first 16 slots at most are used"
+abbrev pub slots : ℕ
+slots = 16
+
+-- "A log is at most 32,768 bytes"
+abbrev pub longest-log : ℕ
+longest-log = 32768

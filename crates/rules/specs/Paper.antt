@@ -1,0 +1,90 @@
+-- What an answer is on paper: this document's number, and the values beside it, for each case of each answer.
+use mathlib.Core.Bool.{Bool, cond}
+use mathlib.Core.List.{List, [], _∷_, _++_}
+use Prim.Native.Nat.{ℕ}
+use Rattle.rules.specs.declared.Event.{Event}
+use Rattle.rules.specs.declared.Event.the-variants as event
+use Rattle.rules.specs.declared.Verdict.{Verdict}
+use Rattle.rules.specs.declared.Verdict.the-variants.{Fresh, Known, Beyond, NoBuffer, Trim, TrimLastHop}
+use Rattle.rules.specs.declared.Answer.{Answer}
+use Rattle.rules.specs.declared.Answer.the-variants as answer
+use Rattle.rules.specs.declared.Read.{Read}
+use Rattle.rules.specs.declared.Read.the-variants as reading
+use Rattle.rules.specs.declared.Written.{Written}
+use Rattle.rules.specs.declared.Written.the-variants as writing
+
+-- The kind that is answered, 0 beside a refusal; 0 for done, or the refusal's number; the values that the program prints; the
+-- values that only the library hands out.
+pub record Line : Type 0 where
+  pub kind : ℕ
+  pub number : ℕ
+  pub values : List ℕ
+  pub unprinted : List ℕ
+
+-- "A refusal carries its number only, every value beside it is 0"
+abbrev pub refused : ℕ → Line
+refused n = record { kind = 0; number = n; values = []; unprinted = [] }
+
+-- "0 is done"
+abbrev pub done : ℕ → List ℕ → List ℕ → Line
+done k l m = record { kind = k; number = 0; values = l; unprinted = m }
+
+abbrev pub digit : Bool → ℕ
+digit b = cond b 1 0
+
+-- 01, The receiving side, rules 1 to 5: the arrival answer
+unfoldable pub code : Verdict → ℕ
+code Fresh = 0
+code Known = 1
+code Beyond = 2
+code NoBuffer = 3
+code Trim = 4
+code TrimLastHop = 5
+
+-- "send the PSN; arrive 0 or 1: the arrival answer, cack, base, bitmap, count / 256, entropy, RTX, mark; arrive 2 to 5: arrival answer,
+-- PSN, entropy, RTX; SACK: newly retired, place, held bytes; NACK and timer: newly marked; resend: PSN"
+unfoldable pub paper : Answer → Line
+paper (answer.Refused n) = refused n
+paper answer.Started = done 1 [] []
+paper answer.Closed = done 2 [] []
+paper (answer.Sent p) = done 3 (p .0 ∷ []) []
+paper (answer.Acked v k) =
+    done 4 (code v ∷ k .cack .0 ∷ k .block .base .0 ∷ k .block .bitmap ∷ k .count ∷ k .entropy ∷ digit (k .rtx) ∷ digit (k .mark) ∷ []) (k .mpr ∷ [])
+paper (answer.Nacked v k) = done 4 (code v ∷ k .psn .0 ∷ k .entropy ∷ digit (k .rtx) ∷ []) (k .reason ∷ [])
+paper (answer.Retired n place held) = done 5 (n ∷ place .0 ∷ held ∷ []) []
+paper (answer.Marked n) = done 6 (n ∷ []) []
+paper (answer.Expired n) = done 7 (n ∷ []) []
+paper (answer.Resent p) = done 8 (p .0 ∷ []) []
+
+-- 01, The event log: "1 start: send room 2, send PSN, receive room 2, receive PSN. 2 close. 3 send: size 2. 4 arrive: PSN, size 2, flags
+-- 1, entropy 4. 5 SACK: cack, base, bitmap 8. 6 NACK: PSN, reason 1. 7 timer: PSN. 8 resend."
+unfoldable pub kindOf : Event → ℕ
+kindOf (event.Start a b c d) = 1
+kindOf event.Close = 2
+kindOf (event.Send z) = 3
+kindOf (event.Arrive a) = 4
+kindOf (event.Sack c b) = 5
+kindOf (event.Nack p n) = 6
+kindOf (event.Timer p) = 7
+kindOf event.Resend = 8
+
+unfoldable pub fieldsOf : Event → List ℕ
+fieldsOf (event.Start a b c d) = a ∷ b .0 ∷ c ∷ d .0 ∷ []
+fieldsOf event.Close = []
+fieldsOf (event.Send z) = z ∷ []
+fieldsOf (event.Arrive a) = a .psn .0 ∷ a .size ∷ a .flags ∷ a .entropy ∷ []
+fieldsOf (event.Sack c b) = c .0 ∷ b .base .0 ∷ b .bitmap ∷ []
+fieldsOf (event.Nack p n) = p .0 ∷ n ∷ []
+fieldsOf (event.Timer p) = p .0 ∷ []
+fieldsOf event.Resend = []
+
+-- "A record read gives its event, kind, body and the place after it; on a refusal or at the end there is no event, kind and place are
+-- 0". The body is a part of the log and is told apart (`body` of Log).
+unfoldable pub read-line : Read → Line
+read-line (reading.Record slot e kind next) = done kind (kindOf e ∷ next ∷ slot ∷ fieldsOf e) []
+read-line (reading.Nothing n) = refused n
+
+-- "the length is the answer"
+unfoldable pub written-line : Written → Line
+written-line (writing.Refused n) = refused n
+written-line (writing.Length n) = done 0 (n ∷ []) []

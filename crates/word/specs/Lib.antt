@@ -1,0 +1,3 @@
+-- Functions of the index, and a word's bits as one of them.
+pub mod Index
+pub mod Word

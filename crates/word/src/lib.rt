@@ -1,0 +1,98 @@
+// One 64-bit word, by its bits. Every function takes any word and any number; a bit's index counts modulo 64.
+ghost use mathlib.Core.Path.{_≡_};
+ghost use mathlib.Core.Bool.{not, _&&_, _||_};
+ghost use Prim.Native.Nat.{_+_, _%_, _<_};
+ghost use lib.Dec.{eqb, ltb};
+ghost use Rattle.word.specs.Index.{First, tally};
+ghost use Rattle.word.specs.Word.{bitAt, Bits, inRange, bitOfTwo, onlyIn, isClear};
+
+// Whether bit i is set.
+pub fn test(w: u64, i: u32) -> bool
+    ensures { λ r. ⌜ r ≡ bitAt w (i % 64) ⌝ }
+{
+    (w >> (i % 64)) % 2 == 1
+}
+
+// The word with bit i set.
+pub fn set(w: u64, i: u32) -> u64
+    ensures { λ r. ⌜ Bits r (λ k. bitAt w k || eqb k (i % 64)) ⌝ }
+{
+    w | (1u64 << (i % 64))
+}
+
+// The word with bit i clear.
+pub fn clear(w: u64, i: u32) -> u64
+    ensures { λ r. ⌜ Bits r (λ k. bitAt w k && not (eqb k (i % 64))) ⌝ }
+{
+    w & !(1u64 << (i % 64))
+}
+
+// The word whose bits below k are set, and no others.
+pub fn low(k: u32) -> u64
+    ensures { λ r. ⌜ Bits r (λ i. ltb i k) ⌝ }
+{
+    if 64 <= k {
+        return 18_446_744_073_709_551_615;
+    }
+    (1u64 << k) - 1
+}
+
+// The word whose bits from a up to, and not with, b are set, and no others.
+pub fn range(a: u32, b: u32) -> u64
+    ensures { λ r. ⌜ Bits r (inRange a b) ⌝ }
+{
+    without(low(b), low(a))
+}
+
+// The bits of v that w has not.
+pub fn without(v: u64, w: u64) -> u64
+    ensures { λ r. ⌜ Bits r (onlyIn v w) ⌝ }
+{
+    v & !w
+}
+
+// The 64 bits of two words from bit s of the first on.
+pub fn across(low: u64, high: u64, s: u32) -> u64
+    ensures { λ r. ⌜ Bits r (λ i. bitOfTwo low high (s % 64 + i)) ⌝ }
+{
+    let by = s % 64;
+    if by == 0 {
+        return low;
+    }
+    (low >> by) | (high << (64 - by))
+}
+
+// How many set bits stand below the lowest clear one: 64 where none is clear.
+pub fn run(w: u64) -> u32
+    ensures { λ r. ⌜ First (isClear w) 64 r ⌝ }
+{
+    let mut i: u32 = 0;
+    while i < 64 {
+        if !test(w, i) {
+            return i;
+        }
+        i += 1;
+    }
+    i
+}
+
+// The index of the lowest set bit: 64 where none is set.
+pub fn lowest(w: u64) -> u32
+    ensures { λ r. ⌜ First (bitAt w) 64 r ⌝ }
+{
+    u64::trailing_zeros(w)
+}
+
+// How many bits are set.
+pub fn ones(w: u64) -> u32
+    ensures { λ r. ⌜ r ≡ tally 64 (bitAt w) ⌝ }
+{
+    u64::count_ones(w)
+}
+
+// How many bits of v are set that are clear in w.
+pub fn newly(v: u64, w: u64) -> u32
+    ensures { λ r. ⌜ r ≡ tally 64 (onlyIn v w) ⌝ }
+{
+    u64::count_ones(v & !w)
+}
