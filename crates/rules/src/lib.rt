@@ -6,10 +6,12 @@ pub const SLOTS: usize = 16;
 
 // The smallest and the largest room; a room is a multiple of the smallest.
 pub const LEAST_ROOM: u32 = 64;
+
 pub const LARGEST_ROOM: u32 = 512;
 
 // The smallest and the largest packet size.
 pub const LEAST_SIZE: u16 = 48;
+
 pub const LARGEST_SIZE: u16 = 9216;
 
 // The longest log in bytes.
@@ -96,11 +98,7 @@ pub enum Answer {
     Acked(Verdict, Sack),
     Nacked(Verdict, Nack),
     // A SACK's: packets newly retired, the place and the held bytes after it.
-    Retired {
-        newly: u32,
-        place: Psn,
-        held: u32,
-    },
+    Retired { newly: u32, place: Psn, held: u32 },
     // How many a NACK marked, and how many a timer.
     Marked(u8),
     Expired(u8),
