@@ -19,3 +19,5 @@ pub mod RoundTrip
 pub mod Replays
 pub mod Apart
 pub mod Settled
+pub mod Meeting
+pub mod Rooms

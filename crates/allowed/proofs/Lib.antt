@@ -1,0 +1,2 @@
+-- What other crates cite: a room's numbers. Assumes nothing.
+pub mod Rooms

@@ -1,0 +1,67 @@
+// Which numbers an event may carry. Every function takes any number.
+ghost use mathlib.Core.Path.{_≡_};
+ghost use Prim.Native.Nat.{_%_};
+ghost use Rattle.word.specs.Word.{bitAt};
+ghost use Rattle.rules.specs.Numbers.{psn-ok, room-ok, size-ok, flags-ok, reason-ok};
+use psn::Psn;
+use psn::TURN;
+use rules::LARGEST_ROOM;
+use rules::LARGEST_SIZE;
+use rules::LEAST_ROOM;
+use rules::LEAST_SIZE;
+
+pub fn psn_ok(p: Psn) -> bool
+    ensures { λ r. ⌜ r ≡ psn-ok p ⌝ }
+{
+    p.0 < TURN
+}
+
+pub fn room_ok(room: u32) -> bool
+    ensures { λ r. ⌜ r ≡ room-ok room ⌝ }
+{
+    if room < LEAST_ROOM {
+        return false;
+    }
+    if LARGEST_ROOM < room {
+        return false;
+    }
+    room % LEAST_ROOM == 0
+}
+
+pub fn size_ok(size: u16) -> bool
+    ensures { λ r. ⌜ r ≡ size-ok size ⌝ }
+{
+    if size < LEAST_SIZE {
+        return false;
+    }
+    size <= LARGEST_SIZE
+}
+
+// No bit but 0 to 4, and not trimmed in both ways.
+pub fn flags_ok(flags: u8) -> bool
+    ensures { λ r. ⌜ r ≡ flags-ok flags ⌝ }
+{
+    if 32 <= flags {
+        return false;
+    }
+    if flag(flags, 2) {
+        return !flag(flags, 3);
+    }
+    true
+}
+
+pub fn reason_ok(reason: u8) -> bool
+    ensures { λ r. ⌜ r ≡ reason-ok reason ⌝ }
+{
+    if reason < 1 {
+        return false;
+    }
+    reason <= 6
+}
+
+// Whether a flag's bit is set.
+pub fn flag(flags: u8, i: u32) -> bool
+    ensures { λ r. ⌜ r ≡ bitAt flags (i % 64) ⌝ }
+{
+    word::test(flags as u64, i)
+}

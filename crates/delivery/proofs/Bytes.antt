@@ -1,0 +1,53 @@
+-- The sizes of the packets sent, and the bytes of those that are in a set: one more packet in the set adds its size. Assumes nothing.
+use mathlib.Core.Path.{_≡_, refl, sym, ap, ap₂, _∙_}
+use mathlib.Core.Bool.{Bool, true, false, cond}
+use mathlib.Core.List.{List, [], _∷_}
+use Prim.Native.Nat.{ℕ, _+_, _<_}
+use native.Mathlib.Omega.{arith}
+use native.Mathlib.Decide.{ℕ-discrete}
+use lib.Dec.{eqb}
+use lib.ListN.{length}
+use borrow.Author.Tests.{eq-eqb, ne-eqb}
+use Rattle.rules.specs.Numbers.{size-ok}
+use Rattle.rules.specs.Kept.{All}
+use Rattle.delivery.specs.Network.{sizeOf}
+use Rattle.delivery.proofs.Sets.{plus, plus-same, plus-other}
+
+-- every packet sent has a good size
+abbrev pub Sizes : List ℕ → Type 0
+Sizes l = All (λ z. size-ok z ≡ true) l
+
+unfoldable pub total : (ℕ → Bool) → List ℕ → ℕ
+total A [] = 0
+total A (z ∷ l) = total A l + cond (A (length l)) z 0
+
+total-same : (A B : ℕ → Bool) (l : List ℕ) → ((j : ℕ) → j < length l → A j ≡ B j) → total A l ≡ total B l
+unfolding total
+total-same A B [] h = refl
+total-same A B (z ∷ l) h = ap₂ (λ (t : ℕ) (b : Bool). t + cond b z 0) (total-same A B l (λ j p. h j (omega arith))) (h (length l) (omega arith))
+
+pub total-plus : (A : ℕ → Bool) (i : ℕ) (l : List ℕ) → i < length l → A i ≡ false → total (plus i A) l ≡ total A l + sizeOf l i
+unfolding total sizeOf
+total-plus A i [] h a = absurd (omega arith)
+total-plus A i (z ∷ l) h a = go (ℕ-discrete i (length l)) (λ p. total-plus A i l p a)
+  where
+    go : Dec (i ≡ length l) → (i < length l → total (plus i A) l ≡ total A l + sizeOf l i)
+        → total (plus i A) l + cond (plus i A (length l)) z 0 ≡ total A l + cond (A (length l)) z 0 + cond (eqb (length l) i) z (sizeOf l i)
+    go (yes e) rest =
+        let same : total (plus i A) l ≡ total A l = total-same (plus i A) A l (λ j p. plus-other i j A (omega arith)) in
+        let out : A (length l) ≡ false = ap A (sym e) ∙ a in
+        rw (plus-same i (length l) A e, out, eq-eqb (length l) i (sym e), same) (omega arith)
+    go (no e) rest = rw (plus-other i (length l) A e, ne-eqb (length l) i (λ q. e (sym q)), rest (omega arith)) (omega arith)
+
+-- a newer packet that is not in the set
+pub total-older : (A : ℕ → Bool) (z : ℕ) (l : List ℕ) → A (length l) ≡ false → total A (z ∷ l) ≡ total A l
+unfolding total
+total-older A z l out = rw out (omega arith)
+
+pub sizeOf-older : (z : ℕ) (l : List ℕ) (i : ℕ) → i < length l → sizeOf (z ∷ l) i ≡ sizeOf l i
+unfolding sizeOf
+sizeOf-older z l i h = rw (ne-eqb (length l) i (omega arith))
+
+pub sizeOf-newest : (z : ℕ) (l : List ℕ) → sizeOf (z ∷ l) (length l) ≡ z
+unfolding sizeOf
+sizeOf-newest z l = rw (eq-eqb (length l) (length l) refl)

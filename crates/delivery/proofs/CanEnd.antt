@@ -1,0 +1,174 @@
+-- Every run can be brought to its end: packet number low is still on the wire, it comes again whole, and the SACK that answers it moves
+-- the place. So on, until nothing is left. Assumes nothing.
+use mathlib.Core.Path.{_≡_, refl, sym, ap, _∙_, subst}
+use mathlib.Core.Bool.{Bool, true, false}
+use mathlib.Core.List.{List, [], _∷_, List·Memᴰ, List·Memᴰ·head}
+use Prim.Native.Nat.{ℕ, zero, suc, _+_, _-_, _≤_, _<_}
+use native.Mathlib.Omega.{arith}
+use native.Mathlib.Decide.{ℕ-discrete, decLt}
+use lib.ListN.{length}
+use borrow.Author.Tests.{lt-ltb, le-leb}
+use Rattle.psn.proofs.Circle.{after-lt, back}
+use Rattle.word.specs.Word.{bitAt}
+use Rattle.rules.specs.Numbers.{turn, half, after, distance, size-ok, flags-ok}
+use Rattle.rules.specs.Outcome.{Outcome, refuse, left, answered}
+use Rattle.rules.specs.Receiver.{Receiver, judge, known, verdict, accept, sackOf, judged, arrive}
+use Rattle.rules.specs.Kept.{All}
+use Rattle.rules.specs.declared.Arrival.{Arrival}
+use Rattle.rules.specs.declared.Sack.{Sack}
+use Rattle.rules.specs.declared.Verdict.the-variants.{Fresh, Known}
+use Rattle.delivery.specs.Network.{Start, Packet, Fate, Message, Acks, accepts, message, Note, World, sizeOf, with-sender, heard, on-hear, arrival, with-receiver, noted, reply, on-arrive, Near, Readable, Run, still, sends, resends, timers, hears, arrives}
+use Rattle.delivery.specs.Promise.{among, plain}
+use Rattle.delivery.specs.Sense.{Ended, CanEnd}
+use Rattle.delivery.proofs.Rooms.{room-some, room-few}
+use Rattle.delivery.proofs.Sets.{plus, plus-same, at-most, at-least}
+use Rattle.delivery.proofs.Bytes.{Sizes, sizeOf-older, sizeOf-newest}
+use Rattle.delivery.proofs.Holds.{Holds, receiver-used, Tells}
+use Rattle.delivery.proofs.Keeps.{place-moves}
+use Rattle.delivery.proofs.Taken.{sack-taken, sack-moves, near-ahead, bits-near-ahead}
+use Rattle.delivery.proofs.Invariant.{Told, Inv, not-yet, not-ahead, inv-run, invariant}
+use Rattle.delivery.proofs.Order.{plain-arrives}
+
+-- a run from where another ends
+then : {u v w : World} → Run u v → Run v w → Run u w
+then r still = r
+then r (sends q z) = sends (then r q) z
+then r (resends q) = resends (then r q)
+then r (timers q p) = timers (then r q) p
+then r (hears q n m h) = hears (then r q) n m h
+then r (arrives q p m h f) = arrives (then r q) p m h f
+
+-- the same packets, and the place further on
+record Onward (w v : World) : Type 0 where
+  further : Run w v
+  same-packets : v .sent ≡ w .sent
+  moved : w .low < v .low
+
+-- ---- a SACK past the place is heard
+module _ {s : Start} {w : World} (I : Inv s w) (n : Note) (there : List·Memᴰ n (w .notes)) (b : Bool) (k : Sack) (reply-is : n .reply ≡ Acks b k) (ahead : w .low < n .here) where
+  tells : Tells s (among (w .accepted)) (n .here) k
+  unfolding Told
+  tells = subst (λ (q : Message). Told s (among (w .accepted)) (length (w .sent)) n q) reply-is (I .told n there)
+
+  readable : Readable (w .low) n (n .reply)
+  unfolding Readable
+  readable = subst (λ (q : Message). Readable (w .low) n q) (sym reply-is)
+      (near-ahead (I .keeps) (I .bound) (n .here) k tells (omega arith), bits-near-ahead (I .keeps) (I .bound) (n .here) k tells (omega arith))
+
+  low-moves : w .low < w .low + distance (w .sending .place) (heard (w .sending) (n .reply) .place)
+  unfolding heard left
+  low-moves =
+      let x = w .sending in
+      let near = near-ahead (I .keeps) (I .bound) (n .here) k tells (omega arith) in
+      let bits-near = bits-near-ahead (I .keeps) (I .bound) (n .here) k tells (omega arith) in
+      let far = place-moves (I .keeps) (n .here) k tells near bits-near in
+      rw (reply-is, sack-taken (I .keeps) (I .bound) (n .here) k tells near bits-near, far)
+      (omega (arith, sack-moves (I .keeps) (I .bound) (n .here) k tells near bits-near ahead))
+
+  hear-on : Onward w (on-hear w n)
+  unfolding on-hear with-sender
+  hear-on = record { further = hears still n there readable; same-packets = refl; moved = low-moves }
+
+-- where packet low is accepted, E is past it
+past : {s : Start} {w : World} → Inv s w → (i : ℕ) → i ≡ w .low → among (w .accepted) i ≡ true → i < w .at
+past {w = w} I i is e = at-least (I .holds .missing) (suc i) (λ j h. elim (decLt j i) [ yes p ↦ I .keeps .below j (omega arith) | no p ↦ ap (among (w .accepted)) (omega arith) ∙ e ])
+
+-- ---- a packet comes whole
+clean : Fate
+clean = record { entropy = 0; flags = 0; cut = 0 }
+
+size-sent : (l : List ℕ) (i : ℕ) → Sizes l → i < length l → size-ok (sizeOf l i) ≡ true
+unfolding All
+size-sent [] i k h = absurd (omega arith)
+size-sent (z ∷ l) i k h = elim (ℕ-discrete i (length l)) [
+  | yes e ↦ ap (λ (j : ℕ). size-ok (sizeOf (z ∷ l) j)) e ∙ ap size-ok (sizeOf-newest z l) ∙ k .0
+  | no e ↦ ap size-ok (sizeOf-older z l i (omega arith)) ∙ size-sent l i (k .1) (omega arith)
+]
+
+-- what is behind E is known
+known-arrives : {s : Start} {A : ℕ → Bool} {r : Receiver} {at : ℕ} → Holds s A r at → (i z : ℕ) → size-ok z ≡ true → i < at → at ≤ i + half
+    → arrive r (plain (after (s .first) i) z) ≡ judged r (plain (after (s .first) i) z) Known
+unfolding arrive plain bitAt flags-ok refuse verdict judge known
+known-arrives {s} {r = r} {at = at} H i z good h near =
+    let d : distance (r .expected) (after (s .first) i) ≡ turn + i - at = ap (λ (p : ℕ). distance p (after (s .first) i)) (H .expected-is) ∙ back (s .first) at i h (omega arith) in
+    rw (receiver-used H, lt-ltb (after (s .first) i) turn (after-lt (s .first) i), good, le-leb half (distance (r .expected) (after (s .first) i)) (omega arith))
+
+-- it is accepted now or was before, and a SACK says so
+record Acked (w v : World) (i : ℕ) : Type 0 where
+  note : Note
+  there : List·Memᴰ note (v .notes)
+  accepting : Bool
+  answer : Sack
+  reply-is : note .reply ≡ Acks accepting answer
+  here-is : note .here ≡ v .at
+  low-same : v .low ≡ w .low
+  sent-same : v .sent ≡ w .sent
+  accepted : among (v .accepted) i ≡ true
+
+acked : (w : World) (r : Receiver) (l : List ℕ) (i : ℕ) (b : Bool) (k : Sack) → among l i ≡ true → Acked w (noted (with-receiver w r) l i (Acks b k)) i
+unfolding noted with-receiver
+acked w r l i b k e = record {
+  note = record { reply = Acks b k; here = w .at + distance (w .receiving .expected) (r .expected); about = i };
+  there = List·Memᴰ·head refl;
+  accepting = b;
+  answer = k;
+  reply-is = refl;
+  here-is = refl;
+  low-same = refl;
+  sent-same = refl;
+  accepted = e;
+}
+
+module _ {s : Start} {w : World} (I : Inv s w) (p : Packet) (there : List·Memᴰ p (w .wire)) (is : p .number ≡ w .low) where
+  near : Near (p .number) (w .at)
+  near = omega (arith, not-ahead I, at-most (I .holds .missing) (length (w .sent)) (not-yet I), I .keeps .next-is, I .keeps .room-left, room-few (s .send-room) (s .send-good))
+
+  size-good : size-ok (p .size) ≡ true
+  size-good = let C = I .carried p there in ap size-ok (C .size-is) ∙ size-sent (w .sent) (p .number) (I .sizes) (C .was-sent)
+
+  arrive-acked : (b : Bool) → among (w .accepted) (p .number) ≡ b → Acked w (on-arrive w p clean) (p .number)
+  unfolding on-arrive arrival clean plain bitAt reply message answered left judged accepts among plus with-receiver
+  arrive-acked true e =
+      let r = w .receiving in
+      let a : Arrival = plain (p .psn) (p .size) in
+      let met : arrive r a ≡ judged r a Known =
+      subst (λ (q : ℕ). arrive r (plain q (p .size)) ≡ judged r (plain q (p .size)) Known) (sym (I .carried p there .psn-is)) (known-arrives (I .holds) (p .number) (p .size) size-good (past I (p .number) is e) (omega (arith, near))) in
+      subst (λ (o : Outcome Receiver). Acked w (reply (with-receiver w (left r o)) (p .number) (message (answered o))) (p .number)) (sym met)
+      (acked w r (w .accepted) (p .number) false (sackOf r a) e)
+  arrive-acked false e =
+      let r = w .receiving in
+      let a : Arrival = plain (p .psn) (p .size) in
+      let low = at-most (I .holds .missing) (p .number) e in
+      let met : arrive r a ≡ judged r a Fresh =
+      subst (λ (q : ℕ). arrive r (plain q (p .size)) ≡ judged r (plain q (p .size)) Fresh) (sym (I .carried p there .psn-is))
+      (plain-arrives (I .holds) (p .number) (p .size) size-good e (omega (arith, not-ahead I, room-some (s .receive-room) (s .receive-good)))) in
+      subst (λ (o : Outcome Receiver). Acked w (reply (with-receiver w (left r o)) (p .number) (message (answered o))) (p .number)) (sym met)
+      (acked w (accept r a) (p .number ∷ w .accepted) (p .number) true (sackOf (accept r a) a) (plus-same (p .number) (p .number) (among (w .accepted)) refl))
+
+  onward : (v : World) × Onward w v
+  onward =
+      let u : World = on-arrive w p clean in
+      let run : Run w u = arrives still p there near clean in
+      let J : Inv s u = inv-run I run in
+      let K = arrive-acked (among (w .accepted) (p .number)) refl in
+      let H = hear-on J (K .note) (K .there) (K .accepting) (K .answer) (K .reply-is) (omega (arith, K .here-is, past J (p .number) (is ∙ sym (K .low-same)) (K .accepted), K .low-same)) in
+      (on-hear u (K .note), record { further = then run (H .further); same-packets = H .same-packets ∙ K .sent-same; moved = omega (arith, H .moved, K .low-same) })
+
+-- ---- so on, while at most n are left
+ended : {s : Start} (w : World) → Inv s w → length (w .sent) ≤ w .low → (v : World) × Ended w v
+ended w I h = (w, record { further = still; same-packets = refl; all-retired = omega (arith, I .keeps .next-is) })
+
+ends : {s : Start} (n : ℕ) (w : World) → Inv s w → length (w .sent) ≤ w .low + n → (v : World) × Ended w v
+ends zero w I h = ended w I (omega arith)
+ends (suc n) w I h = elim (decLt (w .low) (length (w .sent))) [
+  | no p ↦ ended w I (omega arith)
+  | yes p ↦
+      let O = I .on-wire (w .low) p in
+      let N = onward I (O .packet) (O .there) (O .number-is) in
+      let M = N .1 in
+      let E = ends n (N .0) (inv-run I (M .further)) (omega (arith, M .moved, ap length (M .same-packets))) in
+      (E .0, record { further = then (M .further) (E .1 .further); same-packets = E .1 .same-packets ∙ M .same-packets; all-retired = E .1 .all-retired })
+]
+
+pub can-end : CanEnd
+can-end s w run = ends (length (w .sent)) w (invariant run) (omega arith)

@@ -1,0 +1,337 @@
+-- What holds in every world of a run: both records, the histories and the bytes counted all speak of the one set of packets accepted.
+-- Each event keeps it. Assumes nothing.
+use mathlib.Core.Path.{_≡_, refl, sym, ap, ap₂, _∙_, subst}
+use mathlib.Core.Bool.{Bool, true, false, cond, _||_, false≢true}
+use mathlib.Core.List.{List, [], _∷_, _++_, List·Memᴰ, List·Memᴰ·head, List·Memᴰ·tail, List·Memᴰ·cases-cons, List·Memᴰ·not-nil}
+use mathlib.Core.Logic.{_⊎_, inl, inr}
+use Prim.Native.Nat.{ℕ, _+_, _%_, _^_, _≤_, _<_}
+use native.Mathlib.Omega.{arith}
+use native.Mathlib.Nat.{mod-add-mod}
+use native.Mathlib.Decide.{ℕ-discrete, decLt}
+use lib.ListN.{length, set}
+use borrow.Author.Tests.{leb-false, not-false}
+use Rattle.rules.specs.Numbers.{after, distance, psn, size-ok, reason-ok, trimmed, trimmed-last-hop}
+use Rattle.rules.specs.Lists.{lead, update}
+use Rattle.rules.specs.Outcome.{Outcome, Refused, refuse, left, answered}
+use Rattle.rules.specs.Receiver.{Receiver, verdict, accept, sackOf, reasonOf, nackOf, judged, arrive}
+use Rattle.rules.specs.Receiver as receiver
+use Rattle.rules.specs.Sender.{Sender, outstanding, nth, next, with-entries, new, send}
+use Rattle.rules.specs.Sender as sender
+use Rattle.rules.specs.Retire.{after-sack, sack}
+use Rattle.rules.specs.Marks.{with-mark, nearest, timer, nack, resend}
+use Rattle.rules.specs.Kept.{All}
+use Rattle.rules.specs.declared.Arrival.{Arrival}
+use Rattle.rules.specs.declared.Sack.{Sack}
+use Rattle.rules.specs.declared.Nack.{Nack}
+use Rattle.rules.specs.declared.Verdict.{Verdict}
+use Rattle.rules.specs.declared.Verdict.the-variants.{Fresh, Known, Beyond, NoBuffer, Trim, TrimLastHop}
+use Rattle.rules.proofs.Outcomes.{After, after-refuse, after-done}
+use Rattle.delivery.specs.Network.{Start, Packet, Fate, Message, Silent, Goes, Acks, Nacks, accepts, message, Note, World, begin, with-sender, put, on-send, sizeOf, again, on-resend, on-timer, heard, on-hear, arrival, with-receiver, noted, reply, on-arrive, Near, Readable, Run, still, sends, resends, timers, hears, arrives}
+use Rattle.delivery.specs.Promise.{among, Once}
+use Rattle.delivery.proofs.Rooms.{room-few}
+use Rattle.delivery.proofs.Places.{moved, stays}
+use Rattle.delivery.proofs.Sets.{not-in, at-least, plus, plus-other, plus-more}
+use Rattle.delivery.proofs.Bytes.{Sizes, total, total-plus, total-older, sizeOf-older, sizeOf-newest}
+use Rattle.delivery.proofs.Holds.{Holds, fresh-holds, accept-holds, accept-few, Newcomer, newcomer, Tells, sack-tells}
+use Rattle.delivery.proofs.Keeps.{Keeps, nth-is, Quiet, quiet-self, quiet-update, quiet-timer, quiet-nack, keeps-quiet, keeps-more, keeps-send, next-number, keeps-sack, place-moves, fresh-rests, rest-keeps}
+
+-- a packet on the wire is one that was sent
+pub record Carries (s : Start) (sent : List ℕ) (p : Packet) : Type 0 where
+  pub psn-is : p .psn ≡ after (s .first) (p .number)
+  pub was-sent : p .number < length sent
+  pub size-is : p .size ≡ sizeOf sent (p .number)
+
+-- and packet i stays there
+pub record OnWire (wire : List Packet) (i : ℕ) : Type 0 where
+  pub packet : Packet
+  pub there : List·Memᴰ packet wire
+  pub number-is : packet .number ≡ i
+
+-- a NACK names the packet that it answers, one of the n sent
+pub record Names (s : Start) (n about : ℕ) (k : Nack) : Type 0 where
+  pub psn-is : k .psn .0 ≡ after (s .first) about
+  pub was-sent : about < n
+  pub reason-good : reason-ok (k .reason) ≡ true
+
+unfoldable pub Told : Start → (ℕ → Bool) → ℕ → Note → Message → Type 0
+Told s A n note Silent = Unit {0}
+Told s A n note (Goes p) = Unit {0}
+Told s A n note (Acks b k) = Tells s A (note .here) k
+Told s A n note (Nacks k) = Names s n (note .about) k
+
+told-more : (s : Start) (A B : ℕ → Bool) (n m : ℕ) → ((j : ℕ) → A j ≡ true → B j ≡ true) → n ≤ m → (note : Note) (q : Message) → Told s A n note q → Told s B m note q
+unfolding Told
+told-more s A B n m more h note Silent T = tt
+told-more s A B n m more h note (Goes p) T = tt
+told-more s A B n m more h note (Acks b k) T = record {
+  cack-is = T .cack-is;
+  base-is = T .base-is;
+  to-cack = λ i h. more i (T .to-cack i h);
+  bits = λ j e. more _ (T .bits j e);
+}
+told-more s A B n m more h note (Nacks k) T = record { psn-is = T .psn-is; was-sent = omega (arith, T .was-sent); reason-good = T .reason-good }
+
+pub record Inv (s : Start) (w : World) : Type 0 where
+  pub holds : Holds s (among (w .accepted)) (w .receiving) (w .at)
+  pub keeps : Keeps s (among (w .accepted)) (length (w .sent)) (w .sending) (w .low)
+  pub bound : (i : ℕ) → among (w .accepted) i ≡ true → i < length (w .sent)
+  pub counted : w .receiving .count ≡ total (among (w .accepted)) (w .sent) % 2 ^ 32
+  pub once : Once (w .accepted)
+  pub sizes : Sizes (w .sent)
+  pub carried : (p : Packet) → List·Memᴰ p (w .wire) → Carries s (w .sent) p
+  pub on-wire : (i : ℕ) → i < length (w .sent) → OnWire (w .wire) i
+  pub told : (n : Note) → List·Memᴰ n (w .notes) → Told s (among (w .accepted)) (length (w .sent)) n (n .reply)
+
+inv-begin : (s : Start) → Inv s (begin s)
+unfolding begin receiver.fresh sender.fresh among total Once All
+inv-begin s = record {
+  holds = fresh-holds s (among []) (λ j. refl);
+  keeps = subst (λ (x : Sender). Keeps s (among []) 0 x 0) (sym (fresh-rests s)) (rest-keeps s (among []) 0 (λ i h. absurd (omega arith)));
+  bound = λ i e. absurd (false≢true e);
+  counted = refl;
+  once = tt;
+  sizes = tt;
+  carried = λ p m. absurd (List·Memᴰ·not-nil m);
+  on-wire = λ i h. absurd (omega arith);
+  told = λ n m. absurd (List·Memᴰ·not-nil m);
+}
+
+-- a property of an outcome, through a test
+through : {S : Type 0} (P : Outcome S → Type 0) (b : Bool) (n : ℕ) (o : Outcome S) → P (Refused n) → (b ≡ false → P o) → P (refuse b n o)
+unfolding refuse
+through P true n o p h = p
+through P false n o p h = h refl
+
+module _ {s : Start} {w : World} (I : Inv s w) where
+  -- the next packet is not accepted
+  pub not-yet : among (w .accepted) (length (w .sent)) ≡ false
+  not-yet = not-in _ (λ e. let q = I .bound (length (w .sent)) e in omega arith)
+
+  -- the sender's place is not ahead of the receiver's
+  pub not-ahead : w .low ≤ w .at
+  not-ahead = at-least (I .holds .missing) (w .low) (I .keeps .below)
+
+  -- ---- what the sender does
+  inv-sender : (x : Sender) → Keeps s (among (w .accepted)) (length (w .sent)) x (w .low + distance (w .sending .place) (x .place)) → Inv s (with-sender w x)
+  unfolding with-sender
+  inv-sender x K = record {
+    holds = I .holds;
+    keeps = K;
+    bound = I .bound;
+    counted = I .counted;
+    once = I .once;
+    sizes = I .sizes;
+    carried = I .carried;
+    on-wire = I .on-wire;
+    told = I .told;
+  }
+
+  inv-quiet : (x : Sender) → Quiet (w .sending) x → Inv s (with-sender w x)
+  inv-quiet x Q = inv-sender x (rw (stays (w .low) (w .sending .place) (x .place) (Q .place-same)) (keeps-quiet (I .keeps) x Q))
+
+  inv-idle : Inv s (with-sender w (w .sending))
+  inv-idle = inv-quiet (w .sending) (quiet-self (w .sending))
+
+  inv-timer : (p : ℕ) → Inv s (on-timer w p)
+  unfolding on-timer
+  inv-timer p = inv-quiet (left (w .sending) (timer (w .sending) (psn p))) (quiet-timer (w .sending) (psn p))
+
+  inv-sack : (n : Note) (b : Bool) (k : Sack) → Tells s (among (w .accepted)) (n .here) k → Readable (w .low) n (Acks b k) → Inv s (with-sender w (left (w .sending) (sack (w .sending) (k .cack) (k .block))))
+  unfolding sack Readable
+  inv-sack n b k T R =
+      let x = w .sending in
+      let y : Sender = after-sack x (k .cack .0) (k .block) in
+      let K = keeps-sack (I .keeps) (n .here) k T (R .0) (R .1) in
+      let far = place-moves (I .keeps) (n .here) k T (R .0) (R .1) in
+      let P : Sender → Type 0 = λ z. Inv s (with-sender w z) in
+      let done : After P x (sack x (k .cack) (k .block)) =
+      after-refuse P x _ _ _ inv-idle λ _. after-refuse P x _ _ _ inv-idle λ _. after-refuse P x _ _ _ inv-idle λ _.
+      after-done P x _ _ (inv-sender y (rw far K)) in
+      done .holds
+
+  inv-heard : (n : Note) (q : Message) → Told s (among (w .accepted)) (length (w .sent)) n q → Readable (w .low) n q → Inv s (with-sender w (heard (w .sending) q))
+  unfolding heard Told
+  inv-heard n Silent T R = inv-idle
+  inv-heard n (Goes p) T R = inv-idle
+  inv-heard n (Acks b k) T R = inv-sack n b k T R
+  inv-heard n (Nacks k) T R = inv-quiet (left (w .sending) (nack (w .sending) (k .psn) (k .reason))) (quiet-nack (w .sending) (k .psn) (k .reason))
+
+  inv-hear : (n : Note) → List·Memᴰ n (w .notes) → Readable (w .low) n (n .reply) → Inv s (on-hear w n)
+  unfolding on-hear
+  inv-hear n m R = inv-heard n (n .reply) (I .told n m) R
+
+  -- a packet goes out: the new one, or one of those sent
+  inv-goes : (x : Sender) (l : List ℕ) (packet : ℕ → Packet) (q : ℕ)
+      → Keeps s (among (w .accepted)) (length l) x (w .low + distance (w .sending .place) (x .place))
+      → length (w .sent) ≤ length l
+      → total (among (w .accepted)) l ≡ total (among (w .accepted)) (w .sent)
+      → Sizes l
+      → ((i : ℕ) → i < length (w .sent) → sizeOf l i ≡ sizeOf (w .sent) i)
+      → Carries s l (packet q)
+      → ((i : ℕ) → i < length l → length (w .sent) ≤ i → packet q .number ≡ i)
+      → Inv s (put (with-sender w x) l packet (Goes q))
+  unfolding put with-sender
+  inv-goes x l packet q K longer bytes sizes older C newer = record {
+    holds = I .holds;
+    keeps = K;
+    bound = λ i e. omega (arith, I .bound i e);
+    counted = I .counted ∙ ap (λ (t : ℕ). t % 2 ^ 32) (sym bytes);
+    once = I .once;
+    sizes = sizes;
+    carried = λ p m. carried p (List·Memᴰ·cases-cons m);
+    on-wire = λ i h. elim (decLt i (length (w .sent))) [
+      | yes y ↦ let O = I .on-wire i y in record { packet = O .packet; there = List·Memᴰ·tail (O .there); number-is = O .number-is }
+      | no y ↦ record { packet = packet q; there = List·Memᴰ·head refl; number-is = newer i h (omega arith) }
+    ];
+    told = λ n m. told-more s _ _ (length (w .sent)) (length l) (λ j e. e) longer n (n .reply) (I .told n m);
+  }
+    where
+      carried : (p : Packet) → (p ≡ packet q) ⊎ List·Memᴰ p (w .wire) → Carries s l p
+      carried p (inl e) = subst (Carries s l) (sym e) C
+      carried p (inr m) =
+          let D = I .carried p m in
+          record { psn-is = D .psn-is; was-sent = omega (arith, D .was-sent); size-is = D .size-is ∙ sym (older (p .number) (D .was-sent)) }
+
+  inv-send : (z : ℕ) → Inv s (on-send w z)
+  unfolding on-send send left answered message put with-entries All
+  inv-send z =
+      let x = w .sending in
+      let y : Sender = with-entries x (x .entries ++ (new z ∷ [])) in
+      let packet : ℕ → Packet = λ p. record { number = length (w .sent); psn = p; size = z } in
+      let P : Outcome Sender → Type 0 = λ o. Inv s (put (with-sender w (left x o)) (z ∷ w .sent) packet (message (answered o))) in
+      through P _ _ _ inv-idle λ _. through P _ _ _ inv-idle λ good. through P _ _ _ inv-idle λ room.
+      inv-goes y (z ∷ w .sent) packet (next x)
+      (rw (stays (w .low) (x .place) (y .place) refl) (keeps-send (I .keeps) z (leb-false _ _ room))) (omega arith)
+      (total-older (among (w .accepted)) z (w .sent) not-yet) (not-false (size-ok z) good, I .sizes) (sizeOf-older z (w .sent))
+      (record { psn-is = next-number (I .keeps); was-sent = omega arith; size-is = sym (sizeOf-newest z (w .sent)) })
+      (λ i h k. omega arith)
+
+  inv-resend : Inv s (on-resend w)
+  unfolding on-resend resend left answered message put again
+  inv-resend =
+      let x = w .sending in
+      let o : ℕ = nearest x in
+      let y : Sender = with-entries x (update (with-mark false) (x .entries) o) in
+      let Q = quiet-update x false o in
+      let P : Outcome Sender → Type 0 = λ o. Inv s (put (with-sender w (left x o)) (w .sent) (again w) (message (answered o))) in
+      through P _ _ _ inv-idle λ _. through P _ _ _ inv-idle λ some.
+      let few : o < outstanding x = leb-false _ _ some in
+      let i-is : w .low + distance (nth x 0) (nth x o) ≡ w .low + o =
+      ap (λ (d : ℕ). w .low + d) (moved (s .first) (w .low) o _ _ (nth-is (I .keeps) 0 ∙ ap (after (s .first)) (omega arith)) (nth-is (I .keeps) o) (omega (arith, I .keeps .room-left, room-few (s .send-room) (s .send-good)))) in
+      inv-goes y (w .sent) (again w) (nth x o)
+      (rw (stays (w .low) (x .place) (y .place) (Q .place-same)) (keeps-quiet (I .keeps) y Q)) (omega arith)
+      refl (I .sizes) (λ i h. refl)
+      (record { psn-is = nth-is (I .keeps) o ∙ ap (after (s .first)) (sym i-is); was-sent = omega (arith, I .keeps .next-is); size-is = refl })
+      (λ i h k. absurd (omega arith))
+
+-- ---- what the receiver does
+size-whole : (t l : Bool) (a b : ℕ) → t ≡ false → l ≡ false → cond (t || l) a b ≡ b
+size-whole t l a b p q = rw (p, q)
+
+accept-count : (r : Receiver) (a : Arrival) → accept r a .count ≡ (r .count + a .size) % 2 ^ 32
+unfolding accept
+accept-count r a = refl
+
+module _ {s : Start} {w : World} (I : Inv s w) where
+  here-still : w .at + distance (w .receiving .expected) (w .receiving .expected) ≡ w .at
+  here-still = stays (w .at) (w .receiving .expected) (w .receiving .expected) refl
+
+  inv-unread : Inv s (with-receiver w (w .receiving))
+  unfolding with-receiver
+  inv-unread = record {
+    holds = rw here-still (I .holds);
+    keeps = I .keeps;
+    bound = I .bound;
+    counted = I .counted;
+    once = I .once;
+    sizes = I .sizes;
+    carried = I .carried;
+    on-wire = I .on-wire;
+    told = I .told;
+  }
+
+  inv-noted : (r : Receiver) (l : List ℕ) (i : ℕ) (m : Message)
+      → Holds s (among l) r (w .at + distance (w .receiving .expected) (r .expected))
+      → ((j : ℕ) → among (w .accepted) j ≡ true → among l j ≡ true)
+      → ((j : ℕ) → among l j ≡ true → j < length (w .sent))
+      → r .count ≡ total (among l) (w .sent) % 2 ^ 32
+      → Once l
+      → Told s (among l) (length (w .sent)) (record { reply = m; here = w .at + distance (w .receiving .expected) (r .expected); about = i }) m
+      → Inv s (noted (with-receiver w r) l i m)
+  unfolding noted with-receiver
+  inv-noted r l i m H more bound counted once T = record {
+    holds = H;
+    keeps = keeps-more (I .keeps) (among l) more;
+    bound = bound;
+    counted = counted;
+    once = once;
+    sizes = I .sizes;
+    carried = I .carried;
+    on-wire = I .on-wire;
+    told = λ n y. told n (List·Memᴰ·cases-cons y);
+  }
+    where
+      told : (n : Note) → (n ≡ record { reply = m; here = w .at + distance (w .receiving .expected) (r .expected); about = i }) ⊎ List·Memᴰ n (w .notes) → Told s (among l) (length (w .sent)) n (n .reply)
+      told n (inl e) = subst (λ (y : Note). Told s (among l) (length (w .sent)) y (y .reply)) (sym e) T
+      told n (inr y) = told-more s (among (w .accepted)) (among l) (length (w .sent)) (length (w .sent)) more (omega arith) n (n .reply) (I .told n y)
+
+  -- nothing is accepted
+  inv-same : (i : ℕ) (m : Message)
+      → Told s (among (w .accepted)) (length (w .sent)) (record { reply = m; here = w .at; about = i }) m → Inv s (noted (with-receiver w (w .receiving)) (w .accepted) i m)
+  inv-same i m T = inv-noted (w .receiving) (w .accepted) i m (rw here-still (I .holds)) (λ j e. e) (I .bound) (I .counted) (I .once) (rw here-still T)
+
+  module _ (p : Packet) (C : Carries s (w .sent) p) (near : Near (p .number) (w .at)) (f : Fate) where
+    inv-fresh : verdict (w .receiving) (arrival p f) ≡ Fresh → Inv s (noted (with-receiver w (accept (w .receiving) (arrival p f))) (p .number ∷ w .accepted) (p .number) (Acks true (sackOf (accept (w .receiving) (arrival p f)) (arrival p f))))
+    unfolding arrival Told among plus Once
+    inv-fresh e =
+        let i : ℕ = p .number in
+        let A : ℕ → Bool = among (w .accepted) in
+        let r : Receiver = w .receiving in
+        let a : Arrival = arrival p f in
+        let d : ℕ = distance (r .expected) (p .psn) in
+        let r′ : Receiver = accept r a in
+        let k : ℕ = lead (set (r .window) d true) in
+        let N : Newcomer s A r (w .at) i a = newcomer (I .holds) i a (C .psn-is) near e in
+        let H : Holds s (among (i ∷ w .accepted)) r′ (w .at + k) = subst (λ (x : ℕ). Holds s (plus x A) r′ (w .at + k)) (sym (N .unknown .number)) (accept-holds (I .holds) a (N .inside)) in
+        let here : w .at + distance (r .expected) (r′ .expected) ≡ w .at + k =
+        ap (λ (x : ℕ). w .at + x) (moved (s .first) (w .at) k (r .expected) (r′ .expected) (I .holds .expected-is) (H .expected-is) (accept-few (I .holds) a (N .inside))) in
+        let size : a .size ≡ sizeOf (w .sent) i = size-whole (trimmed (f .flags)) (trimmed-last-hop (f .flags)) (f .cut) (p .size) (N .whole) (N .whole-last) ∙ C .size-is in
+        inv-noted r′ (i ∷ w .accepted) i _ (rw here H)
+        (λ j q. plus-more i j A q)
+        (λ j q. elim (ℕ-discrete i j) [ yes y ↦ omega (arith, C .was-sent) | no y ↦ I .bound j (sym (plus-other i j A y) ∙ q) ])
+        (accept-count r a ∙ ap₂ (λ (x y : ℕ). (x + y) % 2 ^ 32) (I .counted) size ∙ mod-add-mod (total A (w .sent)) (2 ^ 32) (sizeOf (w .sent) i)
+        ∙ ap (λ (x : ℕ). x % 2 ^ 32) (sym (total-plus A i (w .sent) (C .was-sent) (N .unknown .absent))))
+        (N .unknown .absent, I .once)
+        (rw here (sack-tells H a))
+
+    names : (v : Verdict) → reason-ok (reasonOf v) ≡ true → Names s (length (w .sent)) (p .number) (nackOf v (arrival p f))
+    unfolding nackOf arrival
+    names v good = record { psn-is = C .psn-is; was-sent = C .was-sent; reason-good = good }
+
+    inv-judged : (v : Verdict) → verdict (w .receiving) (arrival p f) ≡ v
+        → let o = judged (w .receiving) (arrival p f) v in Inv s (reply (with-receiver w (left (w .receiving) o)) (p .number) (message (answered o)))
+    unfolding judged left answered message accepts reply with-receiver Told reasonOf reason-ok
+    inv-judged Fresh e = inv-fresh e
+    inv-judged Known e = inv-same (p .number) _ (sack-tells (I .holds) (arrival p f))
+    inv-judged Beyond e = inv-same (p .number) _ (names Beyond refl)
+    inv-judged NoBuffer e = inv-same (p .number) _ (names NoBuffer refl)
+    inv-judged Trim e = inv-same (p .number) _ (names Trim refl)
+    inv-judged TrimLastHop e = inv-same (p .number) _ (names TrimLastHop refl)
+
+    inv-arrive : Inv s (on-arrive w p f)
+    unfolding on-arrive arrive left answered message reply
+    inv-arrive =
+        let P : Outcome Receiver → Type 0 = λ o. Inv s (reply (with-receiver w (left (w .receiving) o)) (p .number) (message (answered o))) in
+        through P _ _ _ inv-unread λ _. through P _ _ _ inv-unread λ _. through P _ _ _ inv-unread λ _. through P _ _ _ inv-unread λ _.
+        inv-judged (verdict (w .receiving) (arrival p f)) refl
+
+pub inv-run : {s : Start} {v w : World} → Inv s v → Run v w → Inv s w
+inv-run I still = I
+inv-run I (sends r z) = inv-send (inv-run I r) z
+inv-run I (resends r) = inv-resend (inv-run I r)
+inv-run I (timers r p) = inv-timer (inv-run I r) p
+inv-run I (hears r n m h) = inv-hear (inv-run I r) n m h
+inv-run I (arrives r p m h f) = let J = inv-run I r in inv-arrive J p (J .carried p m) h f
+
+pub invariant : {s : Start} {w : World} → Run (begin s) w → Inv s w
+invariant {s} r = inv-run (inv-begin s) r

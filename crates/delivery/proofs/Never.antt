@@ -1,0 +1,46 @@
+-- What a run never meets: the sender's room is no larger than the receiver's, so no packet is beyond the window, and every reply names
+-- packets that were sent, so none is refused. Assumes nothing.
+use mathlib.Core.Path.{_≡_, refl}
+use mathlib.Core.Bool.{Bool, true, false}
+use native.Mathlib.Omega.{arith}
+use lib.ListN.{length}
+use borrow.Author.Tests.{leb-true}
+use Rattle.rules.specs.Numbers.{distance, trimmed, trimmed-last-hop, no-buffer}
+use Rattle.rules.specs.Receiver.{room, judge, known, beyond, verdict}
+use Rattle.rules.specs.declared.Verdict.the-variants.{Beyond}
+use Rattle.delivery.specs.Network.{Start, Message, Silent, Goes, Acks, Nacks, Note, World, arrival, Readable}
+use Rattle.delivery.specs.Promise.{among}
+use Rattle.delivery.specs.Sense.{NeverBeyond, Taken, NeverRefused}
+use Rattle.delivery.proofs.Holds.{not-known}
+use Rattle.delivery.proofs.Taken.{nack-taken, sack-taken}
+use Rattle.delivery.proofs.Invariant.{Told, Inv, not-ahead, invariant}
+
+judge-beyond : (t l k b n : Bool) → judge t l k b n ≡ Beyond → (k ≡ false) × (b ≡ true)
+unfolding judge
+judge-beyond true l k b n e = (cc, cc)
+judge-beyond false true k b n e = (cc, cc)
+judge-beyond false false true b n e = (cc, cc)
+judge-beyond false false false true n e = (refl, refl)
+judge-beyond false false false false true e = (cc, cc)
+judge-beyond false false false false false e = (cc, cc)
+
+pub never-beyond : NeverBeyond
+unfolding verdict beyond arrival
+never-beyond s w run p m near f e =
+    let I = invariant run in
+    let C = I .carried p m in
+    let r = w .receiving in
+    let g = judge-beyond (trimmed (f .flags)) (trimmed-last-hop (f .flags)) (known r (p .psn)) (beyond r (p .psn)) (no-buffer (f .flags)) e in
+    let N = not-known (I .holds) (p .number) (p .psn) (C .psn-is) near (g .0) in
+    let far = leb-true (room r) (distance (r .expected) (p .psn)) (g .1) in
+    omega (arith, N .number, not-ahead I, I .holds .room-is, I .keeps .next-is, I .keeps .room-left, C .was-sent, s .no-larger)
+
+taken : {s : Start} {w : World} → Inv s w → (n : Note) (q : Message) → Told s (among (w .accepted)) (length (w .sent)) n q → Readable (w .low) n q → Taken (w .sending) q
+unfolding Told Readable Taken
+taken I n Silent T R = tt
+taken I n (Goes p) T R = tt
+taken I n (Acks b k) T R = (_, _, sack-taken (I .keeps) (I .bound) (n .here) k T (R .0) (R .1))
+taken I n (Nacks k) T R = nack-taken (I .keeps) (n .about) (k .psn) (k .reason) (T .psn-is) (T .was-sent) R (T .reason-good)
+
+pub never-refused : NeverRefused
+never-refused s w run n m R = let I = invariant run in taken I n (n .reply) (I .told n m) R

@@ -1,0 +1,39 @@
+-- That demand 3 says something: what a run never meets, and that every run can be brought to its end.
+use mathlib.Core.Path.{_≡_}
+use mathlib.Core.List.{List·Memᴰ}
+use Prim.Native.Nat.{ℕ}
+use Rattle.rules.specs.Outcome.{Done}
+use Rattle.rules.specs.Receiver.{verdict}
+use Rattle.rules.specs.Sender.{Sender, outstanding}
+use Rattle.rules.specs.Retire.{sack}
+use Rattle.rules.specs.Marks.{nack}
+use Rattle.rules.specs.declared.Answer.{Answer}
+use Rattle.rules.specs.declared.Verdict.the-variants.{Beyond}
+use Rattle.delivery.specs.Network.{Start, Packet, Fate, Message, Silent, Goes, Acks, Nacks, Note, World, begin, arrival, Near, Readable, Run}
+
+-- no packet of a run is beyond the receiver's window, so no NACK of a run has reason 3
+abbrev pub NeverBeyond : Type 0
+NeverBeyond =
+    (s : Start) (w : World) → Run (begin s) w → (p : Packet) → List·Memᴰ p (w .wire) → Near (p .number) (w .at) → (f : Fate)
+    → verdict (w .receiving) (arrival p f) ≡ Beyond → ⊥
+
+-- a reply is done, and not refused
+unfoldable pub Taken : Sender → Message → Type 0
+Taken x Silent = Unit {0}
+Taken x (Goes p) = Unit {0}
+Taken x (Acks b k) = (y : Sender) × (a : Answer) × (sack x (k .cack) (k .block) ≡ Done y a)
+Taken x (Nacks k) = (y : Sender) × (a : Answer) × (nack x (k .psn) (k .reason) ≡ Done y a)
+
+-- no reply of a run is refused
+abbrev pub NeverRefused : Type 0
+NeverRefused =
+    (s : Start) (w : World) → Run (begin s) w → (n : Note) → List·Memᴰ n (w .notes) → Readable (w .low) n (n .reply) → Taken (w .sending) (n .reply)
+
+-- by some further events every packet of a run is retired: the last of demand 3's conclusions is never empty
+pub record Ended (w v : World) : Type 0 where
+  pub further : Run w v
+  pub same-packets : v .sent ≡ w .sent
+  pub all-retired : outstanding (v .sending) ≡ 0
+
+abbrev pub CanEnd : Type 0
+CanEnd = (s : Start) (w : World) → Run (begin s) w → (v : World) × Ended w v

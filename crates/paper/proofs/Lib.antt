@@ -1,0 +1,2 @@
+-- What a line shows, by the answer's case.
+pub mod Showing

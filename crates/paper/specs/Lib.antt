@@ -1,0 +1,2 @@
+-- What an answer's line shows.
+pub mod Shown

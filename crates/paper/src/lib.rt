@@ -1,0 +1,109 @@
+// What an answer is on paper: its number, and the values that its line shows.
+ghost use mathlib.Core.Path.{_≡_};
+ghost use mathlib.Core.List.{[], _∷_};
+ghost use lib.ListN.{take};
+ghost use Rattle.rules.specs.Paper.{code as codeOf, digit as digitOf};
+ghost use Rattle.paper.specs.Shown.{Shows};
+use rules::Answer;
+use rules::Verdict;
+
+// The most values that a line has.
+pub const VALUES: usize = 8;
+
+// The number of an answer and the values that its line shows: the first `many`.
+pub struct Shown {
+    pub number: u8,
+    pub many: usize,
+    pub values: [u64; VALUES],
+}
+
+// The arrival answer.
+pub fn code(v: Verdict) -> u64
+    ensures { λ r. ⌜ r ≡ codeOf v ⌝ }
+{
+    match v {
+        Verdict::Fresh => 0,
+        Verdict::Known => 1,
+        Verdict::Beyond => 2,
+        Verdict::NoBuffer => 3,
+        Verdict::Trim => 4,
+        Verdict::TrimLastHop => 5,
+    }
+}
+
+fn digit(b: bool) -> u64
+    ensures { λ r. ⌜ r ≡ digitOf b ⌝ }
+{
+    if b {
+        return 1;
+    }
+    0
+}
+
+fn none(number: u8) -> Shown
+    ensures { λ r. ⌜ (r .number ≡ number) × (r .many ≡ 0) ⌝ }
+{
+    Shown {
+        number,
+        many: 0,
+        values: [0; VALUES],
+    }
+}
+
+fn one(value: u64) -> Shown
+    ensures { λ r. ⌜ (r .number ≡ 0) × (r .many ≡ 1) × (take 1 (r .values) ≡ value ∷ []) ⌝ }
+{
+    Shown {
+        number: 0,
+        many: 1,
+        values: [value, 0, 0, 0, 0, 0, 0, 0],
+    }
+}
+
+// What an answer's line shows.
+pub fn line_of(answer: Answer) -> Shown
+    ensures { λ r. ⌜ Shows answer r ⌝ }
+{
+    match answer {
+        Answer::Refused(number) => none(number),
+        Answer::Started => none(0),
+        Answer::Closed => none(0),
+        Answer::Sent(p) => one(p.0 as u64),
+        Answer::Acked(v, k) => Shown {
+            number: 0,
+            many: 8,
+            values: [
+                code(v),
+                k.cack.0 as u64,
+                k.block.base.0 as u64,
+                k.block.bitmap,
+                k.count as u64,
+                k.entropy as u64,
+                digit(k.rtx),
+                digit(k.mark),
+            ],
+        },
+        Answer::Nacked(v, k) => Shown {
+            number: 0,
+            many: 4,
+            values: [
+                code(v),
+                k.psn.0 as u64,
+                k.entropy as u64,
+                digit(k.rtx),
+                0,
+                0,
+                0,
+                0,
+            ],
+        },
+        Answer::Retired { newly, place, held } => Shown {
+            number: 0,
+            many: 3,
+            values: [newly as u64, place.0 as u64, held as u64, 0, 0, 0, 0, 0],
+        },
+        Answer::Marked(n) => one(n as u64),
+        Answer::Expired(n) => one(n as u64),
+        Answer::Resent(p) => one(p.0 as u64),
+    }
+}

@@ -1,0 +1,53 @@
+-- The first record: nothing from E on is accepted, and all before E in its block of 64 is. Assumes nothing.
+use mathlib.Core.Path.{_≡_, sym, ap, _∙_}
+use mathlib.Core.Bool.{true, false}
+use Prim.Native.Nat.{ℕ, _+_, _/_, _%_, _≤_, _<_}
+use native.Mathlib.Omega.{arith}
+use lib.Dec.{ltb}
+use lib.ListN.{set, replicate, length-replicate}
+use borrow.Author.Tests.{lt-ltb, le-ltb}
+use Rattle.psn.specs.declared.Psn.{Psn}
+use Rattle.word.specs.Word.{bitAt, Bits}
+use Rattle.word.proofs.Index.{is-table}
+use Rattle.word.proofs.Bits.{bit-none}
+use Rattle.row.specs.Row.{at, Row}
+use Rattle.row.proofs.Rows.{row-set}
+use Rattle.rules.specs.Numbers.{turn, room-ok}
+use Rattle.rules.specs.Receiver.{fresh}
+use Rattle.rules.proofs.Lists.{getD-alike}
+use Rattle.allowed.proofs.Rooms.{room-numbers}
+use Rattle.receiver.specs.Held.{Held, held, offset, accepted, meaning, Started}
+
+-- a row of zeros
+at-none : (n p : ℕ) → at (replicate n 0) p ≡ false
+unfolding at
+at-none n p = ap (λ (w : ℕ). bitAt w (p % 64)) (getD-alike 0 n (p / 64)) ∙ bit-none (p % 64)
+
+module _ (room : ℕ) (first : Psn) (w : ℕ) (good : room-ok room ≡ true) (low : first .0 < turn) (bits : Bits w (λ i. ltb i (first .0 % 64))) where
+  abbrev y : Held
+  y = held (record { room = room; expected = first; count = 0 }) (set (replicate 9 0) 0 w)
+
+  first-row : Row (y .words) (λ p. ltb p (offset y))
+  first-row =
+      row-set (replicate 9 0) 0 w (λ p. ltb p (offset y)) (omega arith) (λ b k. bits b k ∙ ap (λ (p : ℕ). ltb p (offset y)) (omega arith))
+      (λ p n. at-none 9 p ∙ sym (le-ltb p (offset y) (omega arith)))
+
+  none-accepted : (p : ℕ) → offset y ≤ p → at (y .words) p ≡ false
+  none-accepted p h = first-row p ∙ le-ltb p (offset y) h
+
+  pub first-started : Started y
+  first-started = record {
+    room-good = good;
+    expected-low = low;
+    enough = omega (arith, room-numbers room good);
+    before = λ p h. first-row p ∙ lt-ltb p (offset y) h;
+    expected-open = none-accepted (offset y) (omega arith);
+    past = λ p h. none-accepted p (omega arith);
+  }
+
+  pub first-means : meaning y ≡ fresh room (first .0)
+  unfolding meaning fresh
+  first-means =
+      let none = is-table (replicate room false) room (accepted y) false (length-replicate room false)
+      (λ i h. getD-alike false room i ∙ sym (none-accepted (offset y + i) (omega arith))) in
+      λ i. record { expected = first .0; window = sym none i; count = 0 }

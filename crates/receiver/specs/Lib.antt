@@ -1,0 +1,3 @@
+-- What a receiver's record means, and which records there are.
+pub mod Held
+pub mod Record

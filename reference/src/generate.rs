@@ -1,0 +1,265 @@
+//! Logs of every family, from a seed: traffic over a network that loses, trims, repeats, delays and swaps, events that are refused, damaged,
+//! cut and random bytes, and the lengths at the edges.
+
+use crate::log::{Card, Record, LONGEST};
+use crate::side::{on, TURN};
+
+/// A small generator of numbers (splitmix64).
+pub struct Chance(u64);
+
+impl Chance {
+    pub fn new(seed: u64) -> Self {
+        Chance(seed)
+    }
+
+    pub fn next(&mut self) -> u64 {
+        self.0 = self.0.wrapping_add(0x9E37_79B9_7F4A_7C15);
+        let mut z = self.0;
+        z = (z ^ z >> 30).wrapping_mul(0xBF58_476D_1CE4_E5B9);
+        z = (z ^ z >> 27).wrapping_mul(0x94D0_49BB_1331_11EB);
+        z ^ z >> 31
+    }
+
+    pub fn below(&mut self, n: u64) -> u64 {
+        self.next() % n
+    }
+
+    pub fn one_in(&mut self, n: u64) -> bool {
+        self.below(n) == 0
+    }
+
+    pub fn pick<T: Copy>(&mut self, from: &[T]) -> T {
+        from[self.below(from.len() as u64) as usize]
+    }
+}
+
+/// A log that grows record by record, with the card that has answered them.
+struct Script {
+    card: Card,
+    bytes: Vec<u8>,
+    most: usize,
+}
+
+impl Script {
+    fn new(most: usize) -> Self {
+        Script { card: Card::default(), bytes: Vec::new(), most }
+    }
+
+    fn event(&mut self, kind: usize, slot: u8, fields: &[u64]) -> Option<Vec<u64>> {
+        let record = Record::new(kind, slot, fields);
+        self.bytes.extend(record.bytes());
+        self.card.event(&record).ok()
+    }
+
+    fn full(&self) -> bool {
+        self.bytes.len() + 18 > self.most
+    }
+}
+
+/// How bad the network is: one in so many is lost, repeated, trimmed, without a buffer; how far packets overtake one another.
+struct Weather {
+    loss: u64,
+    repeat: u64,
+    trim: u64,
+    buffer: u64,
+    overtake: u64,
+}
+
+fn weather(chance: &mut Chance) -> Weather {
+    Weather {
+        loss: chance.pick(&[3, 10, 100, 1_000_000]),
+        repeat: chance.pick(&[3, 10, 100]),
+        trim: chance.pick(&[5, 20, 1_000_000]),
+        buffer: chance.pick(&[7, 30, 1_000_000]),
+        overtake: chance.pick(&[1, 4, 64, 600]),
+    }
+}
+
+/// One connection sends to another's receiving side; replies may be late, lost or heard again.
+pub fn traffic(chance: &mut Chance, room: u64, first: u32, events: usize) -> Vec<u8> {
+    let weather = weather(chance);
+    let mut script = Script::new(LONGEST);
+    let (near, far) = (chance.below(16) as u8, chance.below(16) as u8);
+    let receive_room = if chance.one_in(4) { 64 * (1 + chance.below(8)) } else { room.max(64 * (1 + chance.below(8))) };
+    script.event(1, near, &[room, first.into(), receive_room, first.into()]);
+    if far != near {
+        script.event(1, far, &[room, chance.below(TURN.into()), receive_room, first.into()]);
+    }
+    let mut wire: Vec<(u64, u64, u64)> = Vec::new();
+    let mut replies: Vec<(usize, Vec<u64>)> = Vec::new();
+    for _ in 0..events {
+        if script.full() {
+            break;
+        }
+        match chance.below(10) {
+            0 | 1 => {
+                let size = 48 + chance.below(9169);
+                for _ in 0..1 + chance.below(4) {
+                    if let Some(values) = script.event(3, near, &[size]) {
+                        wire.push((values[0], size, 0));
+                    }
+                    if script.full() {
+                        break;
+                    }
+                }
+            }
+            2..=4 if !wire.is_empty() => {
+                let at = chance.below(weather.overtake.min(wire.len() as u64)) as usize;
+                let (psn, size, rtx) = wire[at];
+                if !chance.one_in(weather.repeat) {
+                    wire.remove(at);
+                }
+                if chance.one_in(weather.loss) {
+                    continue;
+                }
+                let mut flags = rtx << 1 | chance.below(2);
+                if chance.one_in(weather.trim) {
+                    flags |= chance.pick(&[4, 8]);
+                }
+                if chance.one_in(weather.buffer) {
+                    flags |= 16;
+                }
+                let entropy = chance.below(1 << 32);
+                if let Some(values) = script.event(4, far, &[psn, size, flags, entropy]) {
+                    replies.push(match values[0] {
+                        0 | 1 => (5, values[1..4].to_vec()),
+                        answer => (6, vec![psn, [3, 4, 1, 2][answer as usize - 2]]),
+                    });
+                }
+            }
+            5..=7 if !replies.is_empty() => {
+                let at = if chance.one_in(4) { chance.below(replies.len() as u64) as usize } else { replies.len() - 1 };
+                let (kind, fields) = replies[at].clone();
+                if !chance.one_in(weather.repeat) {
+                    replies.remove(at);
+                }
+                if !chance.one_in(weather.loss) {
+                    script.event(kind, near, &fields);
+                }
+            }
+            8 if !wire.is_empty() => {
+                let (psn, _, _) = wire[chance.below(wire.len() as u64) as usize];
+                script.event(7, near, &[psn]);
+            }
+            9 => {
+                if let Some(values) = script.event(8, near, &[]) {
+                    wire.push((values[0], 48 + chance.below(9169), 1));
+                }
+            }
+            _ => {}
+        }
+    }
+    if chance.one_in(3) && !script.full() {
+        script.event(2, near, &[]);
+    }
+    script.bytes
+}
+
+/// Events whose fields are drawn from the edges of what is allowed, so that every refusal comes up.
+pub fn edges(chance: &mut Chance, events: usize) -> Vec<u8> {
+    let mut script = Script::new(LONGEST);
+    let first = chance.pick(&[0, 10, 1000, HALF_EDGE, TURN - 2, TURN - 1]);
+    for _ in 0..events {
+        if script.full() {
+            break;
+        }
+        let slot = chance.pick(&[0, 0, 0, 1, 2, 15, 16, 255]);
+        let near = on(first, chance.pick(&[0, 1, 2, 3, 62, 63, 64, 65, 511, 512, 513, TURN - 1, TURN - 2, HALF_EDGE - 1, HALF_EDGE, HALF_EDGE + 1]));
+        let also = on(first, chance.pick(&[0, 1, 4, 63, 64, TURN - 1, TURN - 64, HALF_EDGE, HALF_EDGE - 65]));
+        let size = chance.pick(&[0, 47, 48, 100, 100, 100, 9216, 9217, 65535]);
+        let room = chance.pick(&[0, 63, 64, 64, 64, 65, 128, 512, 512, 513, 576, 2048, 65535]);
+        let other = chance.pick(&[64, 64, 128, 512, 100]);
+        match chance.pick(&[1, 2, 3, 3, 3, 3, 4, 4, 4, 5, 5, 6, 6, 7, 8]) {
+            1 => script.event(1, slot, &[room, first.into(), other, first.into()]),
+            2 if chance.one_in(3) => script.event(2, slot, &[]),
+            3 => script.event(3, slot, &[size]),
+            4 => {
+                let flags = if chance.one_in(2) { chance.below(256) } else { chance.pick(&[0, 1, 2, 16]) };
+                script.event(4, slot, &[near.into(), size, flags, chance.below(1 << 32)])
+            }
+            5 => {
+                let bitmap = chance.pick(&[0, 1, 2, 10, 1 << 63, u64::MAX]) & if chance.one_in(2) { u64::MAX } else { 15 };
+                script.event(5, slot, &[near.into(), also.into(), bitmap])
+            }
+            6 => script.event(6, slot, &[near.into(), chance.below(9)]),
+            7 => script.event(7, slot, &[near.into()]),
+            _ => script.event(8, slot, &[]),
+        };
+    }
+    script.bytes
+}
+
+const HALF_EDGE: u32 = TURN / 2;
+
+/// One record of each kind.
+pub fn each_kind() -> Vec<u8> {
+    let mut script = Script::new(LONGEST);
+    script.event(1, 0, &[64, 10, 64, 10]);
+    script.event(3, 0, &[100]);
+    script.event(4, 0, &[10, 100, 0, 7]);
+    script.event(5, 0, &[9, 10, 1]);
+    script.event(6, 0, &[10, 1]);
+    script.event(7, 0, &[10]);
+    script.event(8, 0, &[]);
+    script.event(2, 0, &[]);
+    script.bytes
+}
+
+fn random(chance: &mut Chance, length: usize) -> Vec<u8> {
+    (0..length).map(|_| chance.next() as u8).collect()
+}
+
+fn some_room(chance: &mut Chance) -> u64 {
+    64 * (1 + chance.below(8))
+}
+
+fn some_first(chance: &mut Chance) -> u32 {
+    match chance.below(3) {
+        0 => on(TURN, TURN - chance.below(40) as u32),
+        1 => on(HALF_EDGE, TURN - chance.below(40) as u32),
+        _ => chance.below(TURN.into()) as u32,
+    }
+}
+
+/// Log number `i` of a seed. The first ones are the lengths at the edges and a log cut at every offset; the families take turns after them.
+pub fn log(seed: u64, i: usize) -> Vec<u8> {
+    let mut chance = Chance::new(seed.wrapping_mul(1_000_003).wrapping_add(i as u64));
+    let whole = each_kind();
+    if i <= whole.len() {
+        return whole[..i].to_vec();
+    }
+    match i - whole.len() {
+        1 => [0x4D, 0x52, 2, 0].repeat(LONGEST / 4),
+        2 => [0x4D, 0x52, 2, 0].repeat(LONGEST / 4 + 1)[..LONGEST + 1].to_vec(),
+        3 => random(&mut chance, LONGEST),
+        4 => random(&mut chance, LONGEST + 1),
+        5 => random(&mut chance, 1),
+        6 => random(&mut chance, 2),
+        n => match n % 8 {
+            0 => {
+                let length = chance.below(64) as usize;
+                random(&mut chance, length)
+            }
+            1 => {
+                let mut bytes = edges(&mut chance, 200);
+                let at = chance.below(bytes.len() as u64) as usize;
+                bytes[at] ^= 1 << chance.below(8);
+                bytes
+            }
+            2 => {
+                let bytes = edges(&mut chance, 300);
+                let length = chance.below(bytes.len() as u64) as usize;
+                bytes[..length].to_vec()
+            }
+            3 | 4 => edges(&mut chance, 1500),
+            5 => {
+                let (room, first) = (64 * (1 + (n as u64 / 8) % 8), some_first(&mut chance));
+                traffic(&mut chance, room, first, 3000)
+            }
+            _ => {
+                let (room, first) = (some_room(&mut chance), some_first(&mut chance));
+                traffic(&mut chance, room, first, 800)
+            }
+        },
+    }
+}

@@ -1,0 +1,209 @@
+//! The two sides of a connection, from document 01: packet numbers are kept in ordered maps and sets, one entry each.
+
+use std::collections::{BTreeMap, BTreeSet};
+
+pub const TURN: u32 = 1 << 24;
+pub const HALF: u32 = 1 << 23;
+
+/// How far `to` lies ahead of `from` on the circle.
+pub fn distance(from: u32, to: u32) -> u32 {
+    to.wrapping_sub(from) & (TURN - 1)
+}
+
+/// The packet number `by` places on.
+pub fn on(from: u32, by: u32) -> u32 {
+    from.wrapping_add(by) & (TURN - 1)
+}
+
+pub fn room_allowed(room: u16) -> bool {
+    (64..=512).contains(&room) && room % 64 == 0
+}
+
+pub fn size_allowed(size: u16) -> bool {
+    (48..=9216).contains(&size)
+}
+
+/// What an event gives: the refusal's number, or the values of its line.
+pub type Outcome = Result<Vec<u64>, u8>;
+
+#[derive(Clone)]
+pub struct Receiver {
+    room: u32,
+    expected: u32,
+    ahead: BTreeSet<u32>,
+    bytes: u32,
+}
+
+impl Receiver {
+    pub fn new(room: u16, first: u32) -> Self {
+        Receiver { room: room as u32, expected: first, ahead: BTreeSet::new(), bytes: 0 }
+    }
+
+    pub fn arrive(&mut self, psn: u32, size: u16, flags: u8, entropy: u32) -> Outcome {
+        if !size_allowed(size) {
+            return Err(6);
+        }
+        if flags & 0xE0 != 0 || flags & 0x0C == 0x0C {
+            return Err(14);
+        }
+        let rtx = u64::from(flags >> 1 & 1);
+        let negative = |answer: u64| Ok(vec![answer, psn.into(), entropy.into(), rtx]);
+        if flags & 4 != 0 {
+            return negative(4);
+        }
+        if flags & 8 != 0 {
+            return negative(5);
+        }
+        let far = distance(self.expected, psn);
+        let known = far >= HALF || self.ahead.contains(&psn);
+        if !known && far >= self.room {
+            return negative(2);
+        }
+        if !known && flags & 16 != 0 {
+            return negative(3);
+        }
+        if !known {
+            self.ahead.insert(psn);
+            self.bytes = self.bytes.wrapping_add(size.into());
+            while self.ahead.remove(&self.expected) {
+                self.expected = on(self.expected, 1);
+            }
+        }
+        let (base, bitmap) = self.block(psn);
+        Ok(vec![
+            known.into(),
+            on(self.expected, TURN - 1).into(),
+            base.into(),
+            bitmap,
+            (self.bytes / 256).into(),
+            entropy.into(),
+            rtx,
+            u64::from(flags & 1),
+        ])
+    }
+
+    fn block(&self, psn: u32) -> (u32, u64) {
+        let far = distance(self.expected, psn);
+        let base = if far < self.room { on(self.expected, far - far % 64) } else { self.expected };
+        let bitmap = self
+            .ahead
+            .iter()
+            .map(|&p| (distance(self.expected, p), distance(base, p)))
+            .filter(|&(in_window, bit)| in_window < self.room && bit < 64)
+            .fold(0, |bits, (_, bit)| bits | 1 << bit);
+        (base, bitmap)
+    }
+}
+
+#[derive(Clone)]
+struct Sent {
+    size: u16,
+    retired: bool,
+    marked: bool,
+}
+
+#[derive(Clone)]
+pub struct Sender {
+    room: u32,
+    place: u32,
+    /// By how far a packet lies after the very first place: this never wraps.
+    packets: BTreeMap<u64, Sent>,
+    retired_to: u64,
+    sent_to: u64,
+}
+
+impl Sender {
+    pub fn new(room: u16, first: u32) -> Self {
+        Sender { room: room as u32, place: on(first, TURN - 1), packets: BTreeMap::new(), retired_to: 0, sent_to: 0 }
+    }
+
+    fn outstanding(&self) -> u32 {
+        (self.sent_to - self.retired_to) as u32
+    }
+
+    fn psn(&self, packet: u64) -> u32 {
+        on(self.place, (packet - self.retired_to) as u32)
+    }
+
+    fn held(&self) -> u64 {
+        self.packets.values().filter(|p| !p.retired).map(|p| u64::from(p.size)).sum()
+    }
+
+    pub fn send(&mut self, size: u16) -> Outcome {
+        if !size_allowed(size) {
+            return Err(6);
+        }
+        if self.outstanding() >= self.room {
+            return Err(7);
+        }
+        self.sent_to += 1;
+        self.packets.insert(self.sent_to, Sent { size, retired: false, marked: false });
+        Ok(vec![self.psn(self.sent_to).into()])
+    }
+
+    /// The outstanding packet of a PSN, nothing if it is behind, or refusal 8.
+    fn find(&self, psn: u32) -> Result<Option<u64>, u8> {
+        let far = distance(on(self.place, 1), psn);
+        if far < self.outstanding() {
+            Ok(Some(self.retired_to + 1 + u64::from(far)))
+        } else if far >= HALF {
+            Ok(None)
+        } else {
+            Err(8)
+        }
+    }
+
+    pub fn sack(&mut self, cack: u32, base: u32, bitmap: u64) -> Outcome {
+        let far = distance(self.place, cack);
+        if far > self.outstanding() && far < HALF {
+            return Err(8);
+        }
+        let mut named = BTreeSet::new();
+        if far <= self.outstanding() {
+            named.extend(self.retired_to + 1..=self.retired_to + u64::from(far));
+        }
+        for bit in (0..64).filter(|bit| bitmap >> bit & 1 == 1) {
+            named.extend(self.find(on(base, bit))?);
+        }
+        let mut newly = 0;
+        for packet in named {
+            let sent = self.packets.get_mut(&packet).expect("an outstanding packet has an entry");
+            newly += u64::from(!sent.retired);
+            sent.retired = true;
+            sent.marked = false;
+        }
+        while self.packets.get(&(self.retired_to + 1)).is_some_and(|p| p.retired) {
+            self.retired_to += 1;
+            self.packets.remove(&self.retired_to);
+            self.place = on(self.place, 1);
+        }
+        Ok(vec![newly, self.place.into(), self.held()])
+    }
+
+    pub fn timer(&mut self, psn: u32) -> Outcome {
+        let marks = match self.find(psn)? {
+            Some(packet) => {
+                let sent = self.packets.get_mut(&packet).expect("an outstanding packet has an entry");
+                let fresh = !sent.retired && !sent.marked;
+                sent.marked |= fresh;
+                fresh
+            }
+            None => false,
+        };
+        Ok(vec![marks.into()])
+    }
+
+    pub fn nack(&mut self, psn: u32, reason: u8) -> Outcome {
+        match reason {
+            1..=4 => self.timer(psn),
+            5 | 6 => self.find(psn).map(|_| vec![0]),
+            _ => Err(15),
+        }
+    }
+
+    pub fn resend(&mut self) -> Outcome {
+        let packet = self.packets.iter().find(|(_, sent)| sent.marked).map(|(&packet, _)| packet).ok_or(9)?;
+        self.packets.get_mut(&packet).expect("just found").marked = false;
+        Ok(vec![self.psn(packet).into()])
+    }
+}
