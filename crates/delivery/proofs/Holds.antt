@@ -22,7 +22,7 @@ use Rattle.rules.specs.declared.Verdict.the-variants.{Fresh}
 use Rattle.rules.proofs.Joined.{or-false-each}
 use Rattle.rules.proofs.Lists.{lead-true, lead-false, lead-le, getD-alike, getD-slide, length-slide}
 use Rattle.delivery.specs.Network.{Start, Near, base-number}
-use Rattle.delivery.proofs.Packed.{bit-pack}
+use Rattle.rules.proofs.Packed.{bit-pack}
 use Rattle.delivery.proofs.Rooms.{room-used, room-few}
 use Rattle.delivery.proofs.Places.{past-one, moved}
 use Rattle.delivery.proofs.Sets.{plus, plus-same, plus-other, plus-more, Missing}

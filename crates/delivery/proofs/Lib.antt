@@ -1,5 +1,4 @@
 -- Demand 3 proved, and that it says something.
-pub mod Packed
 pub mod Rooms
 pub mod Places
 pub mod Sets

@@ -21,7 +21,7 @@ use Rattle.rules.specs.Marks.{markable, mark, nack}
 use Rattle.rules.specs.declared.Answer.{Answer}
 use Rattle.rules.specs.declared.Sack.{Sack}
 use Rattle.delivery.specs.Network.{Start, Near, base-number}
-use Rattle.delivery.proofs.Packed.{any-none}
+use Rattle.rules.proofs.Lists.{any-none}
 use Rattle.delivery.proofs.Rooms.{room-few}
 use Rattle.delivery.proofs.Holds.{Tells}
 use Rattle.delivery.proofs.Keeps.{Keeps, sender-used, nth-is, moves}

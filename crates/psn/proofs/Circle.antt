@@ -1,5 +1,5 @@
 -- Laws of `after` and `distance`: `after s i` is the number of packet i of a run that began at s. Assumes nothing.
-use mathlib.Core.Path.{_≡_, ap, ap₂, _∙_}
+use mathlib.Core.Path.{_≡_, sym, ap, _∙_}
 use Prim.Native.Nat.{ℕ, _+_, _-_, _%_, _≤_, _<_}
 use native.Mathlib.Omega.{arith}
 use Rattle.psn.specs.Psn.{turn, after, distance}
@@ -60,3 +60,14 @@ distance-after a b h = omega arith
 pub distance-same : (a : ℕ) → distance a a ≡ 0
 unfolding distance
 distance-same a = omega arith
+
+-- from a number to p, and k on
+turned : (a k : ℕ) → (a % turn + k) % turn ≡ (a + k) % turn
+turned a k = omega arith
+
+pub distance-on : (a p k : ℕ) → (distance a p + k) % turn ≡ distance a (after p k)
+unfolding distance after
+distance-on a p k =
+    let z = turn - a % turn in
+    let e : p + z + k ≡ p + k + z = omega arith in
+    turned (p + z) k ∙ ap (λ (x : ℕ). x % turn) e ∙ sym (turned (p + k) z)

@@ -18,7 +18,8 @@ use Rattle.rules.specs.Lists.{lead, slide}
 use Rattle.rules.specs.Receiver.{accept}
 use Rattle.rules.specs.declared.Arrival.{Arrival}
 use Rattle.receiver.specs.Held.{Held, held, offset, accepted, meaning, Started}
-use Rattle.receiver.proofs.Window.{lead-table, slide-table, first-from}
+use Rattle.word.proofs.Index.{first-from}
+use Rattle.rules.proofs.Tables.{lead-table, slide-table}
 
 -- E moves on with the bit that it has in its block
 moved : (e s t : ℕ) → s ≡ e % 64 → s ≤ t → after e (t - s) % 64 ≡ t % 64

@@ -17,10 +17,10 @@ use Rattle.rules.specs.Numbers.{after, distance}
 use Rattle.rules.specs.Lists.{pack}
 use Rattle.rules.specs.Receiver.{room, block-at, block}
 use Rattle.rules.specs.declared.Block.{Block}
-use Rattle.allowed.proofs.Rooms.{room-numbers}
+use Rattle.rules.proofs.Allowed.{room-numbers}
 use Rattle.receiver.specs.Held.{Held, offset, accepted, meaning, Started}
 use Rattle.receiver.proofs.Entries.{room-is}
-use Rattle.receiver.proofs.Packed.{pack-table, pack-table-lt}
+use Rattle.rules.proofs.Packed.{pack-table, pack-table-lt}
 
 -- the block of packet p at distance d begins at entry o
 module _ (x : Held) (h : Started x) (p d o : ℕ) (d-is : d ≡ distance (x .head .expected .0) p) (o-is : o ≡ cond (ltb d (x .head .room)) (64 * (d / 64)) 0) where

@@ -11,7 +11,7 @@ use Rattle.rules.specs.Numbers.{half, distance}
 use Rattle.rules.specs.Receiver.{room, unused, known, beyond, verdict}
 use Rattle.rules.specs.declared.Arrival.{Arrival}
 use Rattle.rules.specs.declared.Verdict.the-variants.{Fresh}
-use Rattle.allowed.proofs.Rooms.{room-numbers}
+use Rattle.rules.proofs.Allowed.{room-numbers}
 use Rattle.receiver.specs.Held.{Held, accepted, meaning, Started}
 use Rattle.receiver.proofs.Ways.{fresh-reachable}
 

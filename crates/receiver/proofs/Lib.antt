@@ -1,6 +1,4 @@
 -- Laws of the receiver's rules and of its words. Assumes nothing.
-pub mod Packed
-pub mod Window
 pub mod Ways
 pub mod Entries
 pub mod Accepting

@@ -15,7 +15,7 @@ use Rattle.row.proofs.Rows.{row-set}
 use Rattle.rules.specs.Numbers.{turn, room-ok}
 use Rattle.rules.specs.Receiver.{fresh}
 use Rattle.rules.proofs.Lists.{getD-alike}
-use Rattle.allowed.proofs.Rooms.{room-numbers}
+use Rattle.rules.proofs.Allowed.{room-numbers}
 use Rattle.receiver.specs.Held.{Held, held, offset, accepted, meaning, Started}
 
 -- a row of zeros

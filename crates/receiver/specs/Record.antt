@@ -1,8 +1,8 @@
 -- A receiver by value: what it means, and which there are.
 use mathlib.Core.Path.{_≡_}
 use mathlib.Core.Logic.{_⊎_}
-use lib.ListN.{length, replicate}
-use Rattle.rules.specs.Numbers.{psn}
+use lib.ListN.{replicate}
+use Rattle.rules.specs.Numbers.{psn, words}
 use Rattle.rules.specs.Receiver as rule
 use Rattle.receiver.specs.declared.Receiver.{Receiver}
 use Rattle.receiver.specs.Held.{Held, Started}
@@ -16,7 +16,7 @@ meaning x = held.meaning (heldOf x)
 
 -- the record of no connection: all zero
 abbrev pub empty : Receiver
-empty = record { room = 0; expected = psn 0; words = replicate 9 0; count = 0 }
+empty = record { room = 0; expected = psn 0; words = replicate words 0; count = 0 }
 
 -- "A record is empty (all zero) or comes from a start and the events after it"
 abbrev pub Sound : Receiver → Type 0

@@ -15,9 +15,7 @@ use rules::Block;
 use rules::Nack;
 use rules::Sack;
 use rules::Verdict;
-
-// Words enough for the largest room from any bit of the first word on.
-pub const WORDS: usize = 9;
+use rules::WORDS;
 
 // A receiver but for its words.
 pub struct Head {

@@ -3,6 +3,9 @@ pub mod Unfold
 pub mod Starred
 pub mod Joined
 pub mod Lists
+pub mod Packed
+pub mod Tables
+pub mod Allowed
 pub mod Outcomes
 pub mod Receives
 pub mod Sends

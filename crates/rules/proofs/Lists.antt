@@ -1,12 +1,13 @@
 -- Laws of the rules' words for lists. Assumes nothing.
-use mathlib.Core.Path.{_≡_, refl, sym, ap, ap₂, _∙_, subst}
-use mathlib.Core.Bool.{Bool, true, false, not, cond, _&&_, _||_, false≢true}
+use mathlib.Core.Path.{_≡_, refl, sym, ap, _∙_}
+use mathlib.Core.Bool.{Bool, true, false, _||_, or-true, false≢true}
 use mathlib.Core.List.{List, [], _∷_, _++_, map}
-use Prim.Native.Nat.{ℕ, zero, suc, _+_, _-_, _*_, _≤_, _<_}
+use Prim.Native.Nat.{ℕ, zero, suc, _+_, _≤_, _<_}
 use native.Mathlib.Omega.{arith}
-use lib.ListN.{length, getD, take, drop, set, replicate, length-append, length-drop, length-replicate, length-set}
+use native.Mathlib.Decide.{ℕ-discrete}
+use lib.ListN.{length, getD, drop, replicate, length-append, length-drop, length-replicate}
 use lib.Seq.{getD-drop}
-use Rattle.rules.specs.Lists.{lead, slide, pack, any, sum, update}
+use Rattle.rules.specs.Lists.{lead, slide, any, update}
 use Rattle.rules.specs.Kept.{All}
 
 -- ---- lead
@@ -59,6 +60,21 @@ pub in-range : (l : List Bool) (i : ℕ) → getD l i false ≡ true → i < len
 in-range [] i h = absurd (false≢true h)
 in-range (b ∷ l) zero h = omega arith
 in-range (b ∷ l) (suc i) h = omega (arith, in-range l i h)
+
+-- ---- any
+pub any-none : (n : ℕ) (f : ℕ → Bool) → ((i : ℕ) → i < n → f i ≡ false) → any n f ≡ false
+unfolding any
+any-none zero f h = refl
+any-none (suc n) f h = rw (h n (omega arith)) (any-none n f (λ i p. h i (omega arith)))
+
+pub any-some : (n : ℕ) (f : ℕ → Bool) (i : ℕ) → i < n → f i ≡ true → any n f ≡ true
+unfolding any
+any-some zero f i l e = absurd (omega arith)
+any-some (suc n) f i l e = go (ℕ-discrete i n) (λ m. any-some n f i m e)
+  where
+    go : Dec (i ≡ n) → (i < n → any n f ≡ true) → (f n || any n f) ≡ true
+    go (yes q) more = ap (λ (t : Bool). t || any n f) (sym (ap f q) ∙ e)
+    go (no q) more = ap (λ (t : Bool). f n || t) (more (omega arith)) ∙ or-true (f n)
 
 -- ---- update
 module _ {A : Type 0} where

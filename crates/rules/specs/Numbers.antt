@@ -1,6 +1,6 @@
 -- 01, Numbers of the trade, and which numbers an event may carry. Packet numbers themselves are those of the crate psn.
 use mathlib.Core.Bool.{Bool, not, _&&_}
-use Prim.Native.Nat.{ℕ, _%_, _^_}
+use Prim.Native.Nat.{ℕ, _+_, _/_, _%_, _^_}
 use lib.Dec.{leb, ltb, eqb}
 use Rattle.word.specs.Word.{bitAt}
 pub use Rattle.psn.specs.Psn.{turn, half, before, behind}
@@ -21,6 +21,10 @@ least-room = 64
 
 abbrev pub largest-room : ℕ
 largest-room = 512
+
+-- words of 64 PSNs enough for the largest room, from any bit of the first word on
+abbrev pub words : ℕ
+words = largest-room / 64 + 1
 
 unfoldable pub room-ok : ℕ → Bool
 room-ok r = leb least-room r && leb r largest-room && eqb (r % least-room) 0

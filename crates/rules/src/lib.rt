@@ -9,6 +9,9 @@ pub const LEAST_ROOM: u32 = 64;
 
 pub const LARGEST_ROOM: u32 = 512;
 
+// Words of 64 packet numbers enough for the largest room, from any bit of the first word on.
+pub const WORDS: usize = LARGEST_ROOM as usize / 64 + 1;
+
 // The smallest and the largest packet size.
 pub const LEAST_SIZE: u16 = 48;
 

@@ -99,6 +99,14 @@ module _ (f : ℕ → Bool) (r : ℕ) (before : (i : ℕ) → i < r → f i ≡ 
   pub first-end : (n : ℕ) → r ≡ n → First f n r
   first-end n e = record { within = omega arith; none = before; here = λ m. absurd (omega arith) }
 
+-- the first that passes, counted from s on
+pub first-from : (f : ℕ → Bool) (s n r : ℕ) → First f (s + n) r → s ≤ r → First (λ i. f (s + i)) n (r - s)
+first-from f s n r h l = record {
+  within = omega (arith, h .within);
+  none = λ i k. h .none (s + i) (omega arith);
+  here = λ k. ap f (omega arith) ∙ h .here (omega arith);
+}
+
 -- ---- the list of a function's values
 module _ {A : Type 0} where
   pub length-table : (n : ℕ) (f : ℕ → A) → length (table n f) ≡ n

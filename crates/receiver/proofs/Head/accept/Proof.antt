@@ -2,7 +2,7 @@
 use Prim.Native.Nat.{_<_}
 use native.Mathlib.Omega.{arith}
 use borrow.Author.Needs.{needs}
-use Rattle.allowed.proofs.Rooms.{room-numbers}
+use Rattle.rules.proofs.Allowed.{room-numbers}
 use Rattle.receiver.specs.Held.{Held, held}
 use Rattle.receiver.proofs.Entries.{fresh-within}
 use Rattle.receiver.proofs.Accepting.{run-from, accept-started, accept-means}

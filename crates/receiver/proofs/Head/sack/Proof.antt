@@ -8,7 +8,7 @@ use lib.Dec.{ltb}
 use borrow.Author.Needs.{needs}
 use borrow.Author.Tests.{lt-ltb, le-ltb}
 use Rattle.rules.specs.Receiver.{sackOf}
-use Rattle.allowed.proofs.Rooms.{room-numbers}
+use Rattle.rules.proofs.Allowed.{room-numbers}
 use Rattle.receiver.specs.Held.{Held, held, meaning}
 use Rattle.receiver.proofs.Blocks.{block-fits, block-is}
 use Rattle.receiver.proofs.Head.sack.Statement.{statement}

@@ -1,0 +1,55 @@
+-- `event_log::read` meets its contract: the tests of the log, and then what is left of it. Assumes nothing.
+use borrow.Author.Needs.{needs}
+use borrow.Author.Tests.{lt-ltb, le-ltb, le-leb, lt-leb}
+use mathlib.Core.Path.{_≡_, ap, _∙_}
+use mathlib.Core.List.{List}
+use Prim.Native.Nat.{ℕ, _-_}
+use native.Mathlib.Omega.{arith}
+use lib.ListN.{length, take, drop, length-drop}
+use lib.Seq.{take-all}
+use Rattle.rules.specs.Paper.{read-line}
+use Rattle.rules.specs.Log.{read-left, read as readOf}
+use Rattle.event_log.proofs.read.Statement.{statement}
+use Rattle.event_log.proofs.read.Tie as tie
+
+rest : (log : List ℕ) (place : ℕ) → take (length log - place) (drop place log) ≡ drop place log
+rest log place = take-all (length log - place) (drop place log) (omega (arith, length-drop place log))
+
+returns : tie.Need-returns
+unfolding readOf
+returns c = simp (lt-ltb _ _ (c .if1 .taken))
+
+returns-2 : tie.Need-returns-2
+unfolding readOf
+returns-2 c = simp (le-ltb _ _ (c .before .if1 .left), le-leb _ _ (c .if2 .taken))
+
+sub-read-first : tie.Need-sub-read-first
+sub-read-first c = search needs
+
+part-read-first-start : tie.Need-part-read-first-start
+part-read-first-start c = search needs
+
+part-read-first-end : tie.Need-part-read-first-end
+part-read-first-end c = search needs
+
+read-first-requires : tie.Need-read-first-requires
+read-first-requires c κs = let a = c .before .before .before .before .args in omega (arith, ap length (rest (a .log .now) (a .place)), length-drop (a .place) (a .log .now), c .before .before .if1 .left, c .before .if2 .left)
+
+returns-3 : tie.Need-returns-3
+unfolding readOf
+returns-3 c =
+    let a = c .before .before .before .before .before .args in
+    simp (le-ltb _ _ (c .before .before .before .if1 .left), lt-leb _ _ (c .before .before .if2 .left))
+    (ap read-line (c .read-first .ensures ∙ ap (λ (r : List ℕ). read-left r (a .place)) (rest (a .log .now) (a .place))))
+
+pub read-spec : {M : Type 1} → statement M
+read-spec =
+    tie.close
+    (tie.spec
+    returns
+    returns-2
+    sub-read-first
+    part-read-first-start
+    part-read-first-end
+    read-first-requires
+    returns-3)

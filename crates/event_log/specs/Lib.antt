@@ -1,0 +1,2 @@
+-- What the functions of the log promise.
+pub mod Parts

@@ -1,0 +1,91 @@
+-- The bits that a SACK names, counted from where a word or a block begins: each test is moved to the other's count. Assumes nothing.
+use mathlib.Core.Path.{_≡_, sym, ap, ap₂, _∙_}
+use mathlib.Core.Bool.{Bool, false, not, _&&_, and-true, and-false}
+use Prim.Native.Nat.{ℕ, suc, _+_, _-_, _*_, _/_, _%_, _^_, _≤_, _<_}
+use native.Mathlib.Omega.{arith}
+use native.Mathlib.Decide.{decLe, decLt}
+use lib.Dec.{ltb, leb}
+use borrow.Author.Tests.{lt-ltb, le-ltb, le-leb, lt-leb}
+use Rattle.psn.specs.Psn.{turn, half, after, distance}
+use Rattle.word.specs.Word.{bitAt, inRange}
+use Rattle.word.proofs.Bits.{bit-none, bit-past, bit-shr, bit-mod, bit-shl-low, bit-shl-high}
+use Rattle.rules.specs.Numbers.{largest-room}
+use Rattle.retire.specs.Rows.{ahead, bitOfBlock}
+
+-- ---- tests
+-- two tests that pass alike
+pub leb-same : (a b c d : ℕ) → (a ≤ b → c ≤ d) → (c ≤ d → a ≤ b) → leb a b ≡ leb c d
+leb-same a b c d there back = go (decLe a b)
+  where
+    go : Dec (a ≤ b) → leb a b ≡ leb c d
+    go (yes h) = le-leb a b h ∙ sym (le-leb c d (there h))
+    go (no h) = lt-leb a b (omega arith) ∙ sym (past (decLe c d))
+      where
+        past : Dec (c ≤ d) → leb c d ≡ false
+        past (yes l) = absurd (h (back l))
+        past (no l) = lt-leb c d (omega arith)
+
+pub leb-not : (a b : ℕ) → not (leb a b) ≡ ltb b a
+leb-not a b = go (decLe a b)
+  where
+    go : Dec (a ≤ b) → not (leb a b) ≡ ltb b a
+    go (yes h) = rw (le-leb a b h, le-ltb b a h)
+    go (no h) = rw (lt-leb a b (omega arith), lt-ltb b a (omega arith))
+
+-- ---- which bits of a block are unsent: it begins o after place + 1, and n are outstanding
+module _ (o n j : ℕ) (l : j < 64) where
+  pub unsent-near : o < half → inRange (n - o) (half - o) j ≡ ahead n ((o + j) % turn)
+  unsent-near h =
+      let e : o + j ≡ (o + j) % turn = omega arith in
+      ap₂ (λ (x y : Bool). x && y) (leb-same (n - o) j n (o + j) (λ k. omega arith) (λ k. omega arith))
+      (leb-same (suc j) (half - o) (suc (o + j)) half (λ k. omega arith) (λ k. omega arith) ∙ sym (leb-not half (o + j)))
+      ∙ ap (ahead n) e
+
+  pub unsent-far : half ≤ o → o < turn → n ≤ largest-room → inRange (turn - o + n) 64 j ≡ ahead n ((o + j) % turn)
+  unsent-far h k m = rw (lt-ltb j 64 l) (and-true (leb (turn - o + n) j) ∙ go (decLt (o + j) turn))
+    where
+      go : Dec (o + j < turn) → leb (turn - o + n) j ≡ ahead n ((o + j) % turn)
+      go (yes b) =
+          let e : (o + j) % turn ≡ o + j = omega arith in
+          rw (e, le-leb half (o + j) (omega arith), lt-leb (turn - o + n) j (omega arith)) (sym (and-false (leb n (o + j))))
+      go (no b) =
+          let i = o + j - turn in
+          let e : (o + j) % turn ≡ i = omega arith in
+          rw (e, lt-leb half i (omega arith)) (leb-same (turn - o + n) j n i (λ q. omega arith) (λ q. omega arith) ∙ sym (and-true (leb n i)))
+
+-- ---- a block's bits in the word that begins q after its base
+module _ (b i : ℕ) (small : b < 2 ^ 64) (l : i < 64) (q : ℕ) where
+  past : (d : ℕ) → 64 ≤ d → bitOfBlock b d ≡ false
+  past d h = rw (le-ltb d 64 h)
+
+  pub placed-up : q < 64 → bitAt (b / 2 ^ q) i ≡ bitOfBlock b ((q + i) % turn)
+  placed-up h = bit-shr b q i ∙ go (decLt (q + i) 64) ∙ ap (bitOfBlock b) same
+    where
+      same : q + i ≡ (q + i) % turn
+      same = omega arith
+
+      go : Dec (q + i < 64) → bitAt b (q + i) ≡ bitOfBlock b (q + i)
+      go (yes m) = rw (lt-ltb (q + i) 64 m)
+      go (no m) = bit-past 64 b (q + i) small (omega arith) ∙ sym (past (q + i) (omega arith))
+
+  pub placed-down : (k : ℕ) → q < turn → k ≡ turn - q → k < 64 → bitAt ((b * 2 ^ k) % 2 ^ 64) i ≡ bitOfBlock b ((q + i) % turn)
+  placed-down k h e m = bit-mod 64 (b * 2 ^ k) i l ∙ go (decLt i k)
+    where
+      go : Dec (i < k) → bitAt (b * 2 ^ k) i ≡ bitOfBlock b ((q + i) % turn)
+      go (yes n) = bit-shl-low b k i n ∙ sym (past ((q + i) % turn) (omega arith))
+      go (no n) =
+          let r = i - k in
+          let i-is : i ≡ k + r = omega arith in
+          let d-is : (q + i) % turn ≡ r = omega arith in
+          ap (bitAt (b * 2 ^ k)) i-is ∙ bit-shl-high b k r ∙ sym (rw (d-is, lt-ltb r 64 (omega arith)))
+
+  pub placed-off : q < turn → 64 ≤ q → 64 ≤ turn - q → bitAt 0 i ≡ bitOfBlock b ((q + i) % turn)
+  placed-off h k m = bit-none i ∙ sym (past ((q + i) % turn) (omega arith))
+
+-- ---- where the size of a packet number stands
+pub size-on : (first a i : ℕ) → (after first a + i) % largest-room ≡ (first + (a + i)) % largest-room
+unfolding after
+size-on first a i = omega arith
+
+pub size-low : (first i : ℕ) → (first % largest-room + i) % largest-room ≡ (first + i) % largest-room
+size-low first i = omega arith

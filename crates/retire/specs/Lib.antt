@@ -1,0 +1,2 @@
+-- What a SACK does to rows of words.
+pub mod Rows

@@ -1,0 +1,50 @@
+-- A SACK over rows of words: bit p of a row is the packet number p after `first`.
+use mathlib.Core.Path.{_≡_}
+use mathlib.Core.Bool.{Bool, not, _&&_, _||_}
+use mathlib.Core.List.{List}
+use Prim.Native.Nat.{ℕ, _+_, _%_}
+use lib.Dec.{leb, ltb}
+use lib.ListN.{getD}
+use Rattle.psn.specs.Psn.{half, after}
+use Rattle.word.specs.Index.{tally, weigh}
+use Rattle.word.specs.Word.{bitAt, Bits, onlyIn}
+use Rattle.row.specs.Row.{at, bits, Becomes}
+use Rattle.rules.specs.Numbers.{largest-room}
+use Rattle.rules.specs.Retire.{has-bit}
+use Rattle.rules.specs.declared.Block.{Block}
+use Rattle.retire.specs.declared.Retired.{Retired}
+use Rattle.retire.specs.declared.Sum.{Sum}
+
+-- does the i-th PSN after place + 1, of n that are outstanding, lie past them and not behind
+abbrev pub ahead : ℕ → ℕ → Bool
+ahead n i = leb n i && not (leb half i)
+
+-- bit d of a block of 64, and none past it
+abbrev pub bitOfBlock : ℕ → ℕ → Bool
+bitOfBlock bitmap d = ltb d 64 && bitAt bitmap d
+
+-- is bit p named: below upto, or by a set bit of the block
+unfoldable pub names : ℕ → ℕ → Block → ℕ → Bool
+names first upto b p = ltb p upto || has-bit b (after first p)
+
+-- the size of the packet number of bit p: sizes stand by PSN modulo the largest room
+abbrev pub sizeAt : List ℕ → ℕ → ℕ → ℕ
+sizeAt sizes first p = getD sizes ((first + p) % largest-room) 0
+
+-- one word: what is named is retired and unmarked, and what was not retired before is fresh
+pub record OneRetired (retired marked named : ℕ) (r : Retired) : Type 0 where
+  pub retired-are : Bits (r .retired) (λ i. bitAt retired i || bitAt named i)
+  pub marked-are : Bits (r .marked) (onlyIn marked named)
+  pub fresh-are : Bits (r .fresh) (onlyIn named retired)
+  pub counted : r .newly ≡ tally 64 (onlyIn named retired)
+
+-- named and not retired before
+abbrev pub fresh : List ℕ → (ℕ → Bool) → ℕ → Bool
+fresh retired f p = f p && not (at retired p)
+
+-- the rows: what f names is retired and unmarked; the count and the bytes of what is newly retired
+pub record Retires (retired marked sizes : List ℕ) (first : ℕ) (f : ℕ → Bool) (retired′ marked′ : List ℕ) (r : Sum) : Type 0 where
+  pub retired-are : Becomes retired retired′ (λ p. at retired p || f p && ltb p (bits retired))
+  pub marked-are : Becomes marked marked′ (λ p. at marked p && not (f p))
+  pub counted : r .newly ≡ tally (bits retired) (fresh retired f)
+  pub weighed : r .bytes ≡ weigh (bits retired) (fresh retired f) (sizeAt sizes first)

@@ -1,0 +1,128 @@
+// What a SACK does to lent rows of words: bit p of a row is the packet number p after the row's first.
+ghost use mathlib.Core.Path.{_≡_};
+ghost use Prim.Native.Nat.{_+_, _*_, _%_, _≤_, _<_};
+ghost use lib.ListN.{length};
+ghost use Rattle.psn.specs.Psn.{turn};
+ghost use Rattle.word.specs.Index.{weigh};
+ghost use Rattle.word.specs.Word.{bitAt, Bits};
+ghost use Rattle.row.specs.Row.{longest};
+ghost use Rattle.rules.specs.Numbers.{largest-room};
+ghost use Rattle.retire.specs.Rows.{ahead, bitOfBlock, names, sizeAt, OneRetired, Retires};
+use psn::HALF;
+use psn::Psn;
+use psn::TURN;
+use rules::Block;
+use rules::LARGEST_ROOM;
+
+// The bits of a block that name unsent packet numbers: the block begins o after place + 1, and n are outstanding.
+pub fn unsent_bits(o: u32, n: u32) -> u64
+    requires { ⌜ (o < turn) × (n ≤ largest-room) ⌝ }
+    ensures { λ r. ⌜ Bits r (λ j. ahead n ((o + j) % turn)) ⌝ }
+{
+    if o < HALF {
+        let mut from = 0;
+        if o < n {
+            from = n - o;
+        }
+        return word::range(from, HALF - o);
+    }
+    word::range(TURN - o + n, 64)
+}
+
+// A block's bits as they stand in the word that begins q after the block's base.
+fn placed(bitmap: u64, q: u32) -> u64
+    requires { ⌜ q < turn ⌝ }
+    ensures { λ r. ⌜ Bits r (λ i. bitOfBlock bitmap ((q + i) % turn)) ⌝ }
+{
+    if q < 64 {
+        return bitmap >> q;
+    }
+    let back = TURN - q;
+    if back < 64 {
+        return bitmap << back;
+    }
+    0
+}
+
+// The bits that a SACK names in word j: those below upto, and those of its block.
+fn named(j: u32, first: Psn, upto: u32, block: Block) -> u64
+    requires { ⌜ j ≤ longest ⌝ }
+    ensures { λ r. ⌜ Bits r (λ b. names (first .0) upto block (64 * j + b)) ⌝ }
+{
+    let base = block.base;
+    let q = base.distance(first.after(64 * j));
+    row::range(j, 0, upto) | placed(block.bitmap, q)
+}
+
+// The sizes of a word's set bits added up; first is the packet number of its lowest bit.
+fn bytes(sizes: &[u16], first: Psn, word: u64) -> u32
+    requires { ⌜ length (now sizes) ≡ largest-room ⌝ }
+    ensures { λ r. ⌜ r ≡ weigh 64 (bitAt word) (sizeAt (now (sizes .entry)) (first .0)) ⌝ }
+{
+    let start = first.0 % LARGEST_ROOM;
+    let mut left = word;
+    let mut b: u32 = 0;
+    let mut sum: u32 = 0;
+    while left != 0 {
+        let t = word::lowest(left);
+        let k = ((start + (b + t)) % LARGEST_ROOM) as usize;
+        sum += sizes[k] as u32;
+        left = (left >> t) >> 1;
+        b += t + 1;
+    }
+    sum
+}
+
+// One word after a SACK: its retired bits, its marked bits, what is newly retired and how many.
+pub struct Retired {
+    pub retired: u64,
+    pub marked: u64,
+    pub fresh: u64,
+    pub newly: u32,
+}
+
+// One word is retired: named has the bits that the SACK names.
+fn one(retired: u64, marked: u64, named: u64) -> Retired
+    ensures { λ r. ⌜ OneRetired retired marked named r ⌝ }
+{
+    Retired {
+        retired: retired | named,
+        marked: word::without(marked, named),
+        fresh: word::without(named, retired),
+        newly: word::newly(named, retired),
+    }
+}
+
+// How many packets are newly retired, and their bytes.
+pub struct Sum {
+    pub newly: u32,
+    pub bytes: u32,
+}
+
+// All that a SACK names is retired, word by word.
+pub fn retire(
+    retired: &mut [u64],
+    marked: &mut [u64],
+    sizes: &[u16],
+    first: Psn,
+    upto: u32,
+    block: Block,
+) -> Sum
+    requires { ⌜ (length (now marked) ≡ length (now retired)) × (length (now retired) ≤ 512) × (length (now sizes) ≡ largest-room) ⌝ }
+    ensures { λ r. ⌜ Retires (now (retired .entry)) (now (marked .entry)) (now (sizes .entry)) (first .0) (names (first .0) upto block) (now (retired .exit)) (now (marked .exit)) r ⌝ }
+{
+    let n = retired.len();
+    let mut newly: u32 = 0;
+    let mut sum: u32 = 0;
+    let mut j: usize = 0;
+    while j < n {
+        let at = j as u32;
+        let out = one(retired[j], marked[j], named(at, first, upto, block));
+        retired[j] = out.retired;
+        marked[j] = out.marked;
+        newly += out.newly;
+        sum += bytes(sizes, first.after(64 * at), out.fresh);
+        j += 1;
+    }
+    Sum { newly, bytes: sum }
+}

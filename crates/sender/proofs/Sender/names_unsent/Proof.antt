@@ -1,0 +1,58 @@
+-- `Sender::names_unsent` meets its contract: cack is past what is outstanding and not behind, or the block's bits meet those that are unsent. Assumes nothing.
+use mathlib.Core.Path.{sym, ap, _∙_}
+use mathlib.Core.Bool.{Bool, _&&_}
+use mathlib.Core.Logic.{⊎-elim}
+use Prim.Native.Nat.{ℕ, _<_}
+use native.Mathlib.Omega.{arith}
+use lib.Bits.{bitAnd, and-le-l}
+use Rattle.psn.specs.Psn.{half, distance}
+use Rattle.psn.proofs.Circle.{distance-lt}
+use Rattle.word.specs.Word.{bitAt}
+use Rattle.word.proofs.Bits.{bit-and}
+use Rattle.sender.proofs.Entries.{few}
+use Rattle.sender.proofs.Judged.{unsent-by-cack, unsent-by-bit}
+use borrow.Author.Needs.{needs}
+use Rattle.sender.proofs.Sender.names_unsent.Statement.{statement}
+use Rattle.sender.proofs.Sender.names_unsent.Tie as tie
+
+distance-requires : tie.Need-distance-requires
+distance-requires c κs = search needs
+
+returns : tie.Need-returns
+returns c =
+    let e = c .before .before .before .before in
+    sym (unsent-by-cack (e .args .self) (e .args .cack .0) (e .args .block) (c .before .before .distance .result) (c .before .before .distance .ensures) (c .before .if1 .taken) (c .if2 .taken))
+
+after-requires : tie.Need-after-requires
+after-requires c κs = search needs
+
+distance-requires-2 : tie.Need-distance-requires-2
+distance-requires-2 c κs = search needs
+
+unsent-bits-requires : tie.Need-unsent-bits-requires
+unsent-bits-requires c κs =
+    let e = c .before .before .before .before .before .before in
+    (omega (arith, c .distance2 .ensures, distance-lt (c .before .after .result .0) (e .args .block .base .0)), omega (arith, few (e .args .self) (e .pre)))
+
+returns-2 : tie.Need-returns-2
+returns-2 c =
+    let e = c .before .before .before .before .before .before .before .before in
+    let x = e .args .self in
+    let block = e .args .block in
+    let d = c .before .before .before .before .before .before .distance .result in
+    let mask = c .before .unsent-bits .result in
+    let not-past : x .outstanding < d → d < half → ⊥ = λ h l. ⊎-elim (λ w. omega (arith, w .1 .left)) (λ w. omega (arith, w .left)) (c .before .before .before .before .before .if1 .came) in
+    unsent-by-bit x (e .args .cack .0) block d (c .before .before .before .before .before .before .distance .ensures) not-past (c .before .before .distance2 .result) (bitAnd (block .bitmap) mask)
+    (c .before .before .distance2 .ensures ∙ ap (λ (a : ℕ). distance a (block .base .0)) (c .before .before .before .after .ensures)) (omega (arith, and-le-l (block .bitmap) mask))
+    (λ j l. bit-and (block .bitmap) mask j ∙ ap (λ (t : Bool). bitAt (block .bitmap) j && t) (c .before .unsent-bits .ensures j l))
+
+pub names-unsent-spec : {M : Type 1} → statement M
+names-unsent-spec =
+    tie.close
+    (tie.spec
+    distance-requires
+    returns
+    after-requires
+    distance-requires-2
+    unsent-bits-requires
+    returns-2)

@@ -1,0 +1,378 @@
+// The sending side. Its rows hold the packet numbers from place + 1's own block of 64 on: bit b of word j is number 64 j + b of that block
+// and those after it. The sizes stand by packet number modulo the largest room.
+ghost use mathlib.Core.Path.{_≡_};
+ghost use mathlib.Core.Bool.{false};
+ghost use Rattle.rules.specs.Sender.{index as indexOf, send as sendOf, start as startOf, unsent as unsentOf};
+ghost use Rattle.rules.specs.Retire.{names-unsent, sack as sackOf};
+ghost use Rattle.rules.specs.Marks.{nack as nackOf, resend as resendOf, timer as timerOf};
+ghost use Rattle.rules.specs.Promise.{Meets};
+ghost use Rattle.sender.specs.Record.{empty as emptyOf, meaning, with-marked, Started, Sound, Marks, Acknowledges};
+use psn::HALF;
+use psn::Psn;
+use psn::TURN;
+use rules::Answer;
+use rules::Block;
+use rules::LARGEST_ROOM;
+use rules::WORDS;
+
+// A size for each packet number of the largest room.
+pub const SIZES: usize = LARGEST_ROOM as usize;
+
+pub struct Sender {
+    pub room: u32,
+    pub place: Psn,
+    pub outstanding: u32,
+    pub held: u32,
+    pub sizes: [u16; SIZES],
+    pub retired: [u64; WORDS],
+    pub marked: [u64; WORDS],
+}
+
+// The answer to an event, and the record after it.
+pub struct Stepped {
+    pub answer: Answer,
+    pub record: Sender,
+}
+
+// Whether a mark was set, and the record after.
+pub struct Marking {
+    pub newly: u8,
+    pub record: Sender,
+}
+
+impl Sender {
+    // The record of no connection: all zero.
+    pub fn empty() -> Sender
+        ensures { λ r. ⌜ r ≡ emptyOf ⌝ }
+    {
+        Sender {
+            room: 0,
+            place: Psn(0),
+            outstanding: 0,
+            held: 0,
+            sizes: [0; SIZES],
+            retired: [0; WORDS],
+            marked: [0; WORDS],
+        }
+    }
+
+    // A refusal leaves the record as it is.
+    fn refused(self, number: u8) -> Stepped
+        ensures { λ r. ⌜ (r .answer ≡ Answer.Refused number) × (r .record ≡ self) ⌝ }
+    {
+        Stepped {
+            answer: Answer::Refused(number),
+            record: self,
+        }
+    }
+
+    // A start. Refused, it hands back the empty record.
+    pub fn start(room: u32, first: Psn) -> Stepped
+        ensures { λ r. ⌜ Meets Sound meaning emptyOf (startOf room first) (r .answer) (r .record) ⌝ }
+    {
+        if !allowed::room_ok(room) {
+            return Sender::empty().refused(4);
+        }
+        if !allowed::psn_ok(first) {
+            return Sender::empty().refused(5);
+        }
+        let sizes: [u16; SIZES] = [0; SIZES];
+        let mut retired: [u64; WORDS] = [0; WORDS];
+        let marked: [u64; WORDS] = [0; WORDS];
+        retired[0] = word::low(first.0 % 64);
+        Stepped {
+            answer: Answer::Started,
+            record: Sender {
+                room,
+                place: first.after(TURN - 1),
+                outstanding: 0,
+                held: 0,
+                sizes,
+                retired,
+                marked,
+            },
+        }
+    }
+
+    // A packet of this size is sent.
+    pub fn send(self, size: u16) -> Stepped
+        requires { ⌜ Sound self ⌝ }
+        ensures { λ r. ⌜ Meets Sound meaning self (sendOf (meaning self) size) (r .answer) (r .record) ⌝ }
+    {
+        let room = self.room;
+        let n = self.outstanding;
+        if room == 0 {
+            return self.refused(2);
+        }
+        if !allowed::size_ok(size) {
+            return self.refused(6);
+        }
+        if room <= n {
+            return self.refused(7);
+        }
+        let place = self.place;
+        let mut sizes = self.sizes;
+        let retired = self.retired;
+        let marked = self.marked;
+        let at = ((place.0 + 1 + n) % LARGEST_ROOM) as usize;
+        sizes[at] = size;
+        Stepped {
+            answer: Answer::Sent(place.after(1 + n)),
+            record: Sender {
+                room,
+                place,
+                outstanding: n + 1,
+                held: self.held + size as u32,
+                sizes,
+                retired,
+                marked,
+            },
+        }
+    }
+
+    // From place + 1 to a packet number.
+    fn index(self, psn: Psn) -> u32
+        ensures { λ r. ⌜ r ≡ indexOf (meaning self) (psn .0) ⌝ }
+    {
+        let place = self.place;
+        place.after(1).distance(psn)
+    }
+
+    // Whether a packet number is neither outstanding nor behind place + 1.
+    fn unsent(self, psn: Psn) -> bool
+        ensures { λ r. ⌜ r ≡ unsentOf (meaning self) (psn .0) ⌝ }
+    {
+        let n = self.outstanding;
+        let i = self.index(psn);
+        if i < n {
+            return false;
+        }
+        i < HALF
+    }
+
+    // The record with other marks.
+    fn with_marked(self, marked: [u64; WORDS]) -> Sender
+        ensures { λ r. ⌜ r ≡ with-marked self marked ⌝ }
+    {
+        let place = self.place;
+        let sizes = self.sizes;
+        let retired = self.retired;
+        Sender {
+            room: self.room,
+            place,
+            outstanding: self.outstanding,
+            held: self.held,
+            sizes,
+            retired,
+            marked,
+        }
+    }
+
+    // A packet number is marked if it is outstanding, not retired and not yet marked.
+    fn mark(self, psn: Psn) -> Marking
+        requires { ⌜ Started self ⌝ }
+        ensures { λ r. ⌜ Marks self (psn .0) r ⌝ }
+    {
+        let place = self.place;
+        let n = self.outstanding;
+        let retired = self.retired;
+        let mut marked = self.marked;
+        let i = self.index(psn);
+        if n <= i {
+            return Marking {
+                newly: 0,
+                record: self,
+            };
+        }
+        let p = (place.0 + 1) % 64 + i;
+        if row::test(&retired, p) {
+            return Marking {
+                newly: 0,
+                record: self,
+            };
+        }
+        if row::test(&marked, p) {
+            return Marking {
+                newly: 0,
+                record: self,
+            };
+        }
+        row::set(&mut marked, p);
+        Marking {
+            newly: 1,
+            record: self.with_marked(marked),
+        }
+    }
+
+    // A timer ran out for a packet number.
+    pub fn timer(self, psn: Psn) -> Stepped
+        requires { ⌜ Sound self ⌝ }
+        ensures { λ r. ⌜ Meets Sound meaning self (timerOf (meaning self) psn) (r .answer) (r .record) ⌝ }
+    {
+        let room = self.room;
+        if room == 0 {
+            return self.refused(2);
+        }
+        if !allowed::psn_ok(psn) {
+            return self.refused(5);
+        }
+        if self.unsent(psn) {
+            return self.refused(8);
+        }
+        let out = self.mark(psn);
+        let record = out.record;
+        Stepped {
+            answer: Answer::Expired(out.newly),
+            record,
+        }
+    }
+
+    // A NACK for a packet number, with its reason.
+    pub fn nack(self, psn: Psn, reason: u8) -> Stepped
+        requires { ⌜ Sound self ⌝ }
+        ensures { λ r. ⌜ Meets Sound meaning self (nackOf (meaning self) psn reason) (r .answer) (r .record) ⌝ }
+    {
+        let room = self.room;
+        if room == 0 {
+            return self.refused(2);
+        }
+        if !allowed::psn_ok(psn) {
+            return self.refused(5);
+        }
+        if !allowed::reason_ok(reason) {
+            return self.refused(15);
+        }
+        if self.unsent(psn) {
+            return self.refused(8);
+        }
+        if 4 < reason {
+            return Stepped {
+                answer: Answer::Marked(0),
+                record: self,
+            };
+        }
+        let out = self.mark(psn);
+        let record = out.record;
+        Stepped {
+            answer: Answer::Marked(out.newly),
+            record,
+        }
+    }
+
+    // The marked packet number nearest after the place is handed out, and its mark cleared. The search goes over words and bits, steps
+    // over a word without a mark, and stops at the first found, which is its value.
+    pub fn resend(self) -> Stepped
+        requires { ⌜ Sound self ⌝ }
+        ensures { λ r. ⌜ Meets Sound meaning self (resendOf (meaning self)) (r .answer) (r .record) ⌝ }
+    {
+        let room = self.room;
+        if room == 0 {
+            return self.refused(2);
+        }
+        let place = self.place;
+        let n = self.outstanding;
+        let mut marked = self.marked;
+        let s = (place.0 + 1) % 64;
+        let mut p = s;
+        let psn = loop {
+            if s + n <= p {
+                return self.refused(9);
+            }
+            let w = row::word_at(&marked, (p / 64) as usize);
+            if w == 0 {
+                p = 64 * (p / 64) + 64;
+            } else {
+                if word::test(w, p) {
+                    break place.after(1 + (p - s));
+                }
+                p += 1;
+            }
+        };
+        row::clear(&mut marked, p);
+        Stepped {
+            answer: Answer::Resent(psn),
+            record: self.with_marked(marked),
+        }
+    }
+
+    // Whether a SACK names an unsent packet number.
+    fn names_unsent(self, cack: Psn, block: Block) -> bool
+        requires { ⌜ Started self ⌝ }
+        ensures { λ r. ⌜ r ≡ names-unsent (meaning self) (cack .0) block ⌝ }
+    {
+        let place = self.place;
+        let n = self.outstanding;
+        let d = place.distance(cack);
+        if n < d {
+            if d < HALF {
+                return true;
+            }
+        }
+        let base = block.base;
+        let o = place.after(1).distance(base);
+        (block.bitmap & retire::unsent_bits(o, n)) != 0
+    }
+
+    // All that a SACK names is retired, and the place moves over the retired at the front.
+    fn acknowledge(self, cack: Psn, block: Block) -> Stepped
+        requires { ⌜ Started self × (names-unsent (meaning self) (cack .0) block ≡ false) ⌝ }
+        ensures { λ r. ⌜ Acknowledges self (cack .0) block r ⌝ }
+    {
+        let place = self.place;
+        let n = self.outstanding;
+        let s = (place.0 + 1) % 64;
+        let first = place.after(TURN + 1 - s);
+        let d = place.distance(cack);
+        let mut upto = s;
+        if d <= n {
+            upto = s + d;
+        }
+        let sizes = self.sizes;
+        let mut retired = self.retired;
+        let mut marked = self.marked;
+        let out = retire::retire(&mut retired, &mut marked, &sizes, first, upto, block);
+        let t = row::run(&retired, s + n);
+        row::shed(&mut retired, (t / 64) as usize);
+        row::shed(&mut marked, (t / 64) as usize);
+        let held = self.held - out.bytes;
+        let now = place.after(t - s);
+        Stepped {
+            answer: Answer::Retired {
+                newly: out.newly,
+                place: now,
+                held,
+            },
+            record: Sender {
+                room: self.room,
+                place: now,
+                outstanding: n - (t - s),
+                held,
+                sizes,
+                retired,
+                marked,
+            },
+        }
+    }
+
+    // A SACK: judged whole before anything is retired.
+    pub fn sack(self, cack: Psn, block: Block) -> Stepped
+        requires { ⌜ Sound self ⌝ }
+        ensures { λ r. ⌜ Meets Sound meaning self (sackOf (meaning self) cack block) (r .answer) (r .record) ⌝ }
+    {
+        let room = self.room;
+        if room == 0 {
+            return self.refused(2);
+        }
+        if !allowed::psn_ok(cack) {
+            return self.refused(5);
+        }
+        let base = block.base;
+        if !allowed::psn_ok(base) {
+            return self.refused(5);
+        }
+        if self.names_unsent(cack, block) {
+            return self.refused(8);
+        }
+        self.acknowledge(cack, block)
+    }
+}

@@ -1,0 +1,36 @@
+#!/bin/sh
+# Logs of events: replays one with the proved program, shows one in words, makes one from words. What is missing is built first.
+# usage: mrc replay [LOG]     the program's lines for a log
+#        mrc show [LOG]       a log in words, a record a line
+#        mrc make [WORDS]     a log, from such words, to standard output
+# Without a file, standard input is read.
+set -u
+here=$(cd "$(dirname "$0")" && pwd) || exit 2
+usage() { sed -n '2,7s/^# \{0,1\}//p' "$0" >&2; exit 2; }
+[ $# -ge 1 ] && [ $# -le 2 ] || usage
+
+# the command line of a program of target/bin: it is built for x86-64, and the toolchain's emulator runs it elsewhere
+program() {
+    home=$(dirname "$(dirname "$(rt doc)")")
+    tools=$home/on/$(uname -m)/toolchain
+    emulator=$tools/bin/qemu-x86_64
+    [ -x "$emulator" ] && [ "$(uname -m)" != x86_64 ] || emulator=
+    printf '%s\n' ${emulator:+"$emulator"} "$tools/lib/ld-linux-x86-64.so.2" --library-path "$tools/lib" "$here/target/bin/$1"
+}
+
+built() {
+    [ -x "$here/target/bin/replay" ] || (cd "$here" && rt check replay >&2) || exit 1
+}
+
+reference() {
+    (cd "$here/reference" && cargo build --release --offline --quiet) || exit 1
+    "$here/reference/target/release/reference" "$1"
+}
+
+[ $# -eq 1 ] || exec <"$2" || exit 2
+case $1 in
+    command) built; program replay ;;
+    replay) built; exec $(program replay) ;;
+    show | make) reference "$1" ;;
+    *) usage ;;
+esac
