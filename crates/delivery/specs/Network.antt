@@ -8,7 +8,7 @@ use lib.Dec.{eqb}
 use lib.ListN.{length}
 use Rattle.word.specs.Word.{bitAt}
 use Rattle.rules.specs.Numbers.{turn, half, after, distance, psn, room-ok, trimmed, trimmed-last-hop}
-use Rattle.rules.specs.Outcome.{Outcome, left, answered}
+use Rattle.rules.specs.Outcome.{left, answered}
 use Rattle.rules.specs.Receiver.{Receiver, arrive}
 use Rattle.rules.specs.Receiver as receiver
 use Rattle.rules.specs.Sender.{Sender, nth, send}

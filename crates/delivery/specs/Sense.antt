@@ -1,7 +1,6 @@
 -- That demand 3 says something: what a run never meets, and that every run can be brought to its end.
 use mathlib.Core.Path.{_≡_}
 use mathlib.Core.List.{List·Memᴰ}
-use Prim.Native.Nat.{ℕ}
 use Rattle.rules.specs.Outcome.{Done}
 use Rattle.rules.specs.Receiver.{verdict}
 use Rattle.rules.specs.Sender.{Sender, outstanding}

@@ -8,8 +8,6 @@ use lib.ListN.{length, getD, drop}
 use Rattle.rules.specs.Numbers.{psn}
 use Rattle.rules.specs.Paper.{Line, digit, code, paper, read-line, written-line}
 use Rattle.rules.specs.Log.{eventOf}
-use Rattle.rules.specs.declared.Sack.{Sack}
-use Rattle.rules.specs.declared.Nack.{Nack}
 use Rattle.rules.specs.declared.Verdict.{Verdict}
 use Rattle.rules.specs.declared.Verdict.the-variants.{Fresh, Known, Beyond, NoBuffer, Trim, TrimLastHop}
 use Rattle.rules.specs.declared.Answer.{Answer}

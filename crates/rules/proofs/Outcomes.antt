@@ -1,10 +1,9 @@
 -- What holds of an outcome whatever the rule: a refusal leaves all as it was, and an invariant goes through each test. Assumes nothing.
-use mathlib.Core.Path.{_≡_, refl, sym, ap, _∙_, subst}
+use mathlib.Core.Path.{_≡_, refl, ap}
 use mathlib.Core.Bool.{Bool, true, false, cond}
 use Prim.Native.Nat.{ℕ}
-use Rattle.rules.specs.Outcome.{Outcome, Refused, Done, refuse, left, answered, within, started}
+use Rattle.rules.specs.Outcome.{Outcome, Refused, Done, refuse, left, answered, within}
 use Rattle.rules.specs.declared.Answer.{Answer}
-use Rattle.rules.specs.declared.Answer.the-variants as answer
 
 -- "a refused call changes no record"
 pub refused-keeps : {S : Type 0} (x : S) (o : Outcome S) (n : ℕ) → o ≡ Refused n → left x o ≡ x

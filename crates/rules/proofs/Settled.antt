@@ -1,11 +1,8 @@
 -- What `Meets` allows is settled: two answers with one line are one, and two records mean what the rule leaves. Assumes nothing.
-use mathlib.Core.Path.{_≡_, sym, ap, subst, _∙_}
-use Prim.Native.Nat.{ℕ}
-use Rattle.rules.specs.Outcome.{Outcome, Refused, Done, left, answered}
-use Rattle.rules.specs.Paper.{paper}
+use mathlib.Core.Path.{_≡_, sym, _∙_}
+use Rattle.rules.specs.Outcome.{Outcome}
 use Rattle.rules.specs.Promise.{Meets}
 use Rattle.rules.specs.declared.Answer.{Answer}
-use Rattle.rules.specs.declared.Answer.the-variants as answer
 use Rattle.rules.proofs.Apart.{answers-apart}
 
 module _ {R S : Type 0} {Sound : R → Type 0} {meaning : R → S} {x : R} {o : Outcome S} where

@@ -1,7 +1,6 @@
 -- 01, From the bench: the starred cases, and L, as one table. A case asks for events on a fresh connection, for a log's records or
 -- for its answers, and has the lines that come back.
 use mathlib.Core.Path.{_≡_}
-use mathlib.Core.Bool.{true, false}
 use mathlib.Core.List.{List, [], _∷_, map}
 use Prim.Native.Nat.{ℕ, zero, suc, _^_}
 use lib.ListN.{length}
@@ -9,11 +8,10 @@ use Rattle.rules.specs.Numbers.{psn}
 use Rattle.rules.specs.Outcome.{left, answered}
 use Rattle.rules.specs.Connection.{Connection, empty, start, step}
 use Rattle.rules.specs.Paper.{Line, refused, done, paper, read-line}
-use Rattle.rules.specs.Log.{read, layouts, whole}
-use Rattle.rules.specs.Replay.{Replied, Last, End, Log, Replayed, replay}
+use Rattle.rules.specs.Log.{read, whole}
+use Rattle.rules.specs.Replay.{Replied, Last, End, Log, replay}
 use Rattle.rules.specs.declared.Event.{Event}
-use Rattle.rules.specs.declared.Event.the-variants.{Send, Arrive, Sack, Nack, Timer, Resend}
-use Rattle.rules.specs.declared.Read.{Read}
+use Rattle.rules.specs.declared.Event.the-variants.{Send, Arrive, Sack, Nack, Resend}
 use Rattle.rules.specs.declared.Read.the-variants.{Record, Nothing}
 
 -- the lines of events, one after the other

@@ -1,10 +1,10 @@
 -- 01, What the card keeps: "A record is empty (all zero) or comes from a start and the events after it". What such a record always has.
 use mathlib.Core.Path.{_≡_}
-use mathlib.Core.Bool.{Bool, true, false, not, _&&_}
+use mathlib.Core.Bool.{true, false, _&&_}
 use mathlib.Core.List.{List, [], _∷_, map}
 use mathlib.Core.Logic.{_⊎_}
 use Prim.Native.Nat.{ℕ, _^_, _≤_, _<_}
-use lib.ListN.{length, getD}
+use lib.ListN.{getD}
 use Rattle.rules.specs.Numbers.{turn, room-ok, size-ok}
 use Rattle.rules.specs.Receiver.{Receiver, room}
 use Rattle.rules.specs.Sender.{Entry, Sender, outstanding}

@@ -1,7 +1,7 @@
 -- 01, The event log: the bytes of a record, how a log is read and how a record is written. Two tables go by kind, the fields of an
 -- event (`fieldsOf` and `eventOf`) and their widths; nothing else does.
 use mathlib.Core.Path.{_≡_}
-use mathlib.Core.Bool.{Bool, true, false, not, cond, _&&_, _||_}
+use mathlib.Core.Bool.{Bool, false, not, cond, _&&_, _||_}
 use mathlib.Core.List.{List, [], _∷_, _++_}
 use Prim.Native.Nat.{ℕ, zero, suc, _+_, _-_, _*_, _/_, _%_, _^_, _<_}
 use lib.Dec.{leb, ltb, eqb}

@@ -1,10 +1,10 @@
 -- 01, The sending side: marks for resending. A NACK or a timer sets one, a resend takes one.
 use mathlib.Core.Bool.{Bool, true, false, not, cond, _&&_}
 use mathlib.Core.List.{map}
-use Prim.Native.Nat.{ℕ, _+_}
+use Prim.Native.Nat.{ℕ}
 use lib.Dec.{leb}
 use lib.ListN.{getD}
-use Rattle.rules.specs.Numbers.{after, psn, psn-ok, reason-ok}
+use Rattle.rules.specs.Numbers.{psn, psn-ok, reason-ok}
 use Rattle.rules.specs.Lists.{lead, update}
 use Rattle.rules.specs.Outcome.{Outcome, Done, refuse}
 use Rattle.rules.specs.Sender.{Entry, Sender, outstanding, nth, unused, index, unsent, with-entries}

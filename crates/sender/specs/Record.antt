@@ -1,6 +1,6 @@
 -- A sender by value: what it means, and which there are.
 use mathlib.Core.Path.{_≡_}
-use mathlib.Core.Bool.{Bool, true, false, _&&_}
+use mathlib.Core.Bool.{true, false, _&&_}
 use mathlib.Core.Logic.{_⊎_}
 use mathlib.Core.List.{List}
 use Prim.Native.Nat.{ℕ, _+_, _%_, _≤_, _<_}
@@ -8,7 +8,7 @@ use lib.ListN.{length, getD, replicate}
 use Rattle.word.specs.Index.{table, total}
 use Rattle.row.specs.Row.{at}
 use Rattle.rules.specs.Numbers.{turn, psn, room-ok, size-ok, largest-room, words}
-use Rattle.rules.specs.Outcome.{Outcome, left, answered}
+use Rattle.rules.specs.Outcome.{left, answered}
 use Rattle.rules.specs.Sender.{Entry, size-held}
 use Rattle.rules.specs.Sender as rule
 use Rattle.rules.specs.Retire.{after-sack, report}

@@ -1,0 +1,2 @@
+-- What a connection's record means, and which records there are.
+pub mod Record
