@@ -12,7 +12,7 @@ use Rattle.word.proofs.Index.{is-table}
 use Rattle.word.proofs.Bits.{bit-none}
 use Rattle.row.specs.Row.{at, Row}
 use Rattle.row.proofs.Rows.{row-set}
-use Rattle.rules.specs.Numbers.{turn, room-ok}
+use Rattle.rules.specs.Numbers.{turn, room-ok, words}
 use Rattle.rules.specs.Receiver.{fresh}
 use Rattle.rules.proofs.Lists.{getD-alike}
 use Rattle.rules.proofs.Allowed.{room-numbers}
@@ -25,12 +25,12 @@ at-none n p = ap (λ (w : ℕ). bitAt w (p % 64)) (getD-alike 0 n (p / 64)) ∙ 
 
 module _ (room : ℕ) (first : Psn) (w : ℕ) (good : room-ok room ≡ true) (low : first .0 < turn) (bits : Bits w (λ i. ltb i (first .0 % 64))) where
   abbrev y : Held
-  y = held (record { room = room; expected = first; count = 0 }) (set (replicate 9 0) 0 w)
+  y = held (record { room = room; expected = first; count = 0 }) (set (replicate words 0) 0 w)
 
   first-row : Row (y .words) (λ p. ltb p (offset y))
   first-row =
-      row-set (replicate 9 0) 0 w (λ p. ltb p (offset y)) (omega arith) (λ b k. bits b k ∙ ap (λ (p : ℕ). ltb p (offset y)) (omega arith))
-      (λ p n. at-none 9 p ∙ sym (le-ltb p (offset y) (omega arith)))
+      row-set (replicate words 0) 0 w (λ p. ltb p (offset y)) (omega arith) (λ b k. bits b k ∙ ap (λ (p : ℕ). ltb p (offset y)) (omega arith))
+      (λ p n. at-none words p ∙ sym (le-ltb p (offset y) (omega arith)))
 
   none-accepted : (p : ℕ) → offset y ≤ p → at (y .words) p ≡ false
   none-accepted p h = first-row p ∙ le-ltb p (offset y) h

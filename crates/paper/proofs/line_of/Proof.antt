@@ -130,13 +130,13 @@ returns-4 c = shows-one _ _ _ _ (c .before .before .before .answer2 .given .1) r
 
 returns-5 : tie.Need-returns-5
 unfolding paper
-returns-5 c = 
+returns-5 c =
     shows _ _ _ (c .before .before .before .before .before .before .before .before .answer3 .given .1) refl
     (acked-same _ _ _ _ _ _ _ _ _ _ _ (c .before .before .before .before .before .before .code .ensures) (c .before .digit .ensures) (c .digit2 .ensures)) (omega arith)
 
 returns-6 : tie.Need-returns-6
 unfolding paper
-returns-6 c = 
+returns-6 c =
     shows _ _ _ (c .before .before .before .before .before .answer4 .given .1) refl
     (nacked-same _ _ _ _ _ _ (c .before .before .before .code2 .ensures) (c .digit3 .ensures)) (omega arith)
 

@@ -1,0 +1,3 @@
+-- Demand 3 for the records that the card keeps.
+pub mod Engines
+pub mod Tables

@@ -1,0 +1,3 @@
+-- What turns amount to.
+pub mod Turning
+pub mod Playing

@@ -1,0 +1,13 @@
+-- `State::begin` meets its contract: a table's `empty` gives the slots. Assumes nothing.
+use borrow.Author.Needs.{needs}
+use Rattle.player.proofs.State.begin.Statement.{statement}
+use Rattle.player.proofs.State.begin.Tie as tie
+
+empty-requires : tie.Need-empty-requires
+empty-requires c κs = search needs
+
+returns : tie.Need-returns
+returns c = λ i. record { table = record { slots = c .empty .ensures i }; place = 0; count = 0 }
+
+pub begin-spec : {M : Type 1} → statement M
+begin-spec = tie.close (tie.spec empty-requires returns)

@@ -1,0 +1,2 @@
+-- What a replay promises.
+pub mod Play

@@ -1,0 +1,41 @@
+-- What a turn of a replay promises, and what any run of turns amounts to.
+use mathlib.Core.Path.{_≡_}
+use mathlib.Core.Bool.{true, false}
+use mathlib.Core.List.{List, [], _∷_}
+use Prim.Native.Nat.{ℕ, _+_, _≤_}
+use lib.ListN.{replicate}
+use Rattle.rules.specs.Numbers.{slots}
+use Rattle.rules.specs.Promise.{Meets}
+use Rattle.rules.specs.Table.{on}
+use Rattle.rules.specs.Log.{read}
+use Rattle.rules.specs.Replay.{Replied, Last, stop}
+use Rattle.rules.specs.declared.Read.{Read}
+use Rattle.rules.specs.declared.Read.the-variants.{Record, Nothing}
+use Rattle.connection.specs.Record.{empty}
+use Rattle.table.specs.Slots.{AllSound, meaning}
+use Rattle.player.specs.declared.State.{State}
+use Rattle.player.specs.declared.Turn.{Turn}
+
+-- every slot is empty, and nothing is read
+abbrev pub begin : State
+begin = record { table = record { slots = replicate slots empty }; place = 0; count = 0 }
+
+-- each slot is empty or comes from a start and events, and no more records are read than bytes
+pub record Sound (x : State) : Type 0 where
+  pub slots-sound : AllSound (x .table .slots)
+  pub count-low : x .count ≤ x .place
+
+-- what is read at the place is answered as the rules say, or ends the log
+unfoldable pub By : State → Turn → Read → Type 0
+By x r (Record slot e kind next) =
+    (r .more ≡ true) × (r .kind ≡ kind) × Meets AllSound meaning (x .table .slots) (on (meaning (x .table .slots)) slot e) (r .answer) (r .state .table .slots) × (r .state .place ≡ next) × (r .state .count ≡ x .count + 1)
+By x r (Nothing n) = (r .more ≡ false) × (r .stop ≡ n) × (r .state ≡ x)
+
+pub record Turned (log : List ℕ) (x : State) (r : Turn) : Type 0 where
+  pub by-rule : By x r (read log (x .place))
+  pub sound : Sound (r .state)
+
+-- the lines and the last line of turn after turn, each any that its promise allows
+pub data Plays (log : List ℕ) : State → List Replied → Last → Type 0 where
+  stops : {x : State} (r : Turn) → Turned log x r → r .more ≡ false → Plays log x [] (stop (r .stop) (x .place) (x .count))
+  goes-on : {x : State} (r : Turn) {l : List Replied} {last : Last} → Turned log x r → r .more ≡ true → Plays log (r .state) l last → Plays log x (record { kind = r .kind; answer = r .answer } ∷ l) last

@@ -1,0 +1,15 @@
+-- `Table::empty` meets its contract: each slot holds what `Connection::empty` gives. Assumes nothing.
+use mathlib.Core.Path.{ap}
+use lib.ListN.{replicate}
+use borrow.Author.Needs.{needs}
+use Rattle.table.proofs.Table.empty.Statement.{statement}
+use Rattle.table.proofs.Table.empty.Tie as tie
+
+empty-requires : tie.Need-empty-requires
+empty-requires c κs = search needs
+
+returns : tie.Need-returns
+returns c = ap (replicate 16) (c .empty .ensures)
+
+pub empty-spec : {M : Type 1} → statement M
+empty-spec = tie.close (tie.spec empty-requires returns)

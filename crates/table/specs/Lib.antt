@@ -1,0 +1,2 @@
+-- What a table means.
+pub mod Slots

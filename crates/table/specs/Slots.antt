@@ -1,0 +1,24 @@
+-- A table of connections: what it means, and which there are.
+use mathlib.Core.Bool.{not, _&&_}
+use mathlib.Core.List.{List, map}
+use Prim.Native.Nat.{ℕ}
+use lib.ListN.{getD}
+use Rattle.rules.specs.Outcome.{Outcome, refuse}
+use Rattle.rules.specs.Connection.{unused, step}
+use Rattle.rules.specs.Connection as rule
+use Rattle.rules.specs.Table.{is-start}
+use Rattle.rules.specs.declared.Event.{Event}
+use Rattle.connection.specs.declared.Connection.{Connection}
+use Rattle.connection.specs.Record.{empty, Sound}
+use Rattle.connection.specs.Record as connection
+
+unfoldable pub meaning : List Connection → List rule.Connection
+meaning t = map connection.meaning t
+
+-- each slot is empty or comes from a start and the events after it
+abbrev pub AllSound : List Connection → Type 0
+AllSound t = (slot : ℕ) → Sound (getD t slot empty)
+
+-- an event on the record of a slot: 3, then the connection's own
+unfoldable pub inSlot : rule.Connection → Event → Outcome rule.Connection
+inSlot c e = refuse (is-start e && not (unused c)) 3 (step c e)

@@ -1,0 +1,108 @@
+// The table of connections, lent or by value. An event copies one slot, has it answered by value and stores it back.
+ghost use mathlib.Core.Path.{_≡_};
+ghost use lib.ListN.{length, replicate};
+ghost use Rattle.rules.specs.Numbers.{slots};
+ghost use Rattle.rules.specs.Promise.{Meets};
+ghost use Rattle.rules.specs.Table.{on as onOf};
+ghost use Rattle.connection.specs.Record.{empty as emptyOf, meaning as meaningOf, Sound};
+ghost use Rattle.table.specs.Slots.{AllSound, inSlot, meaning};
+use connection::Connection;
+use connection::Stepped;
+use rules::Answer;
+use rules::Event;
+use rules::SLOTS;
+
+// An event on the record of a slot: no start of one in use.
+fn in_slot(c: Connection, event: Event) -> Stepped
+    requires { ⌜ Sound c ⌝ }
+    ensures { λ r. ⌜ Meets Sound meaningOf c (inSlot (meaningOf c) event) (r .answer) (r .record) ⌝ }
+{
+    let sender = c.sender;
+    let room = sender.room;
+    if let Event::Start {
+        send_room: _,
+        send_psn: _,
+        receive_room: _,
+        receive_psn: _,
+    } = event {
+        if room != 0 {
+            return Stepped {
+                answer: Answer::Refused(3),
+                record: c,
+            };
+        }
+    }
+    c.step(event)
+}
+
+// An event on a slot of a lent table.
+pub fn event(table: &mut [Connection], slot: usize, event: Event) -> Answer
+    requires { ⌜ AllSound (now table) ⌝ }
+    ensures { λ r. ⌜ Meets AllSound meaning (now (table .entry)) (onOf (meaning (now (table .entry))) slot event) r (now (table .exit)) ⌝ }
+{
+    if slot >= SLOTS {
+        return Answer::Refused(1);
+    }
+    if slot >= table.len() {
+        return Answer::Refused(1);
+    }
+    let s = in_slot(table[slot], event);
+    table[slot] = s.record;
+    s.answer
+}
+
+// Every slot lent is emptied.
+pub fn empty_all(table: &mut [Connection])
+    ensures { λ _. ⌜ now (table .exit) ≡ replicate (length (now (table .entry))) emptyOf ⌝ }
+{
+    let c = Connection::empty();
+    let mut i = 0;
+    while i < table.len() {
+        table[i] = c;
+        i += 1;
+    }
+}
+
+// A table by value, for callers that lend none.
+pub struct Table {
+    pub slots: [Connection; SLOTS],
+}
+
+// The answer to an event, and the table after it.
+pub struct Answered {
+    pub answer: Answer,
+    pub table: Table,
+}
+
+impl Table {
+    // Every slot is empty.
+    pub fn empty() -> Table
+        ensures { λ r. ⌜ r .slots ≡ replicate slots emptyOf ⌝ }
+    {
+        let c = Connection::empty();
+        Table { slots: [c; SLOTS] }
+    }
+
+    // An event on a slot.
+    pub fn on(self, slot: usize, event: Event) -> Answered
+        requires { ⌜ AllSound (self .slots) ⌝ }
+        ensures { λ r. ⌜ Meets AllSound meaning (self .slots) (onOf (meaning (self .slots)) slot event) (r .answer) (r .table .slots) ⌝ }
+    {
+        if SLOTS <= slot {
+            return Answered {
+                answer: Answer::Refused(1),
+                table: self,
+            };
+        }
+        let mut slots = self.slots;
+        let c = slots[slot];
+        let s = in_slot(c, event);
+        let answer = s.answer;
+        let next = s.record;
+        slots[slot] = next;
+        Answered {
+            answer,
+            table: Table { slots },
+        }
+    }
+}
