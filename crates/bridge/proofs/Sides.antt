@@ -24,23 +24,22 @@ use Rattle.rules.proofs.Outcomes.{answered-within}
 use Rattle.rules.proofs.Runs.{inside}
 use Rattle.psn.specs.declared.Psn.{Psn}
 use Rattle.connection.specs.declared.Connection.{Connection}
-use Rattle.connection.specs.Record.{empty}
 use Rattle.connection.specs.Record as connection
-use Rattle.connection.proofs.Sides.{empty-means}
 use Rattle.sender.specs.Record as sender
 use Rattle.table.specs.Slots.{meaning}
+use Rattle.table.proofs.Slots.{at-means}
 use Rattle.delivery.specs.Network.{Start}
 use Rattle.bridge.specs.Tables.{On, sending-in, receiving-in, Receiving, arrival-of, Sending, send-of, sack-of, nack-of, timer-of, resend-of}
-use Rattle.bridge.proofs.Slots.{at-left, sender-answer, sender-next, receiver-same, receiver-answer, receiver-next, sender-same, still-here, at-other, at-map}
+use Rattle.bridge.proofs.Slots.{at-left, sender-answer, sender-next, receiver-same, receiver-answer, receiver-next, sender-same, still-here, at-other}
 
 -- ---- a table as the rules see it
 pub sending-at : (t : List Connection) (i : ℕ) → at (meaning t) i .sender ≡ sending-in t i
 unfolding meaning connection.meaning
-sending-at t i = ap (λ (c : rule.Connection). c .sender) (at-map connection.meaning empty t i empty-means)
+sending-at t i = ap (λ (c : rule.Connection). c .sender) (at-means t i)
 
 pub receiving-at : (t : List Connection) (i : ℕ) → at (meaning t) i .receiver ≡ receiving-in t i
 unfolding meaning connection.meaning
-receiving-at t i = ap (λ (c : rule.Connection). c .receiver) (at-map connection.meaning empty t i empty-means)
+receiving-at t i = ap (λ (c : rule.Connection). c .receiver) (at-means t i)
 
 -- what a promise gives
 pub said : (t t′ : List Connection) (slot : ℕ) (e : Event) (a : Answer) → On t slot e a t′ → a ≡ answered (on (meaning t) slot e)

@@ -1,11 +1,11 @@
 -- What an event on a table does to one side of a slot: the side's own rule where the event is that side's, and nothing where it is the
 -- other's or another slot's. Assumes nothing.
-use mathlib.Core.Path.{_≡_, refl, sym, ap, _∙_}
+use mathlib.Core.Path.{_≡_, refl, ap, _∙_}
 use mathlib.Core.Bool.{false}
-use mathlib.Core.List.{List, [], _∷_, map}
+use mathlib.Core.List.{List}
 use mathlib.Core.Logic.{_≢_}
-use Prim.Native.Nat.{ℕ, zero, suc, _<_}
-use lib.ListN.{length, getD, set}
+use Prim.Native.Nat.{ℕ, _<_}
+use lib.ListN.{length, set}
 use lib.Seq.{getD-set-same}
 use Rattle.rules.specs.Outcome.{Outcome, Refused, Done, refuse, left, answered, within}
 use Rattle.rules.specs.Receiver as rule-receiver
@@ -70,9 +70,3 @@ still-here t slot e i h = rw (elsewhere t slot e .holds .long) h
 -- a slot that is not named
 pub at-other : (t : List Connection) (slot : ℕ) (e : Event) (i : ℕ) → i ≢ slot → at (left t (on t slot e)) i ≡ at t i
 at-other t slot e i h = elsewhere t slot e .holds .same i h
-
--- the connection in a slot of a mapped table
-pub at-map : {A : Type 0} (f : A → Connection) (none : A) (t : List A) (slot : ℕ) → f none ≡ empty → at (map f t) slot ≡ f (getD t slot none)
-at-map f none [] slot e = sym e
-at-map f none (a ∷ t) zero e = refl
-at-map f none (a ∷ t) (suc slot) e = at-map f none t slot e

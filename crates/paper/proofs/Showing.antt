@@ -12,6 +12,10 @@ use Rattle.paper.specs.Shown.{Shows}
 pub shows : (a b : Answer) (r : Shown) → a ≡ b → r .number ≡ paper b .number → take (r .many) (r .values) ≡ paper b .values → r .many ≤ 8 → Shows a r
 shows a b r e n v f = record { number-is = n ∙ sym (ap (λ (x : Answer). paper x .number) e); values-are = v ∙ sym (ap (λ (x : Answer). paper x .values) e); few = f }
 
+-- a case that is shown by itself
+pub shows-as : (a b : Answer) (r : Shown) → a ≡ b → Shows b r → Shows a r
+shows-as a b r e h = shows a b r e (h .number-is) (h .values-are) (h .few)
+
 pub shows-none : (a b : Answer) (r : Shown) (n : ℕ) → a ≡ b → paper b .number ≡ n → paper b .values ≡ [] → (r .number ≡ n) × (r .many ≡ 0) → Shows a r
 shows-none a b r n e p v h =
     shows a b r e (h .0 ∙ sym p) (ap (λ (m : ℕ). take m (r .values)) (h .1) ∙ sym v) (omega (arith, h .1))

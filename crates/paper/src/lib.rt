@@ -5,6 +5,8 @@ ghost use lib.ListN.{take};
 ghost use Rattle.rules.specs.Paper.{code as codeOf, digit as digitOf};
 ghost use Rattle.paper.specs.Shown.{Shows};
 use rules::Answer;
+use rules::Nack;
+use rules::Sack;
 use rules::Verdict;
 
 // The most values that a line has.
@@ -60,6 +62,46 @@ fn one(value: u64) -> Shown
     }
 }
 
+// The line of an arrival that is fresh or known.
+fn acked(v: Verdict, k: Sack) -> Shown
+    ensures { λ r. ⌜ Shows (Answer.Acked v k) r ⌝ }
+{
+    Shown {
+        number: 0,
+        many: 8,
+        values: [
+            code(v),
+            k.cack.0 as u64,
+            k.block.base.0 as u64,
+            k.block.bitmap,
+            k.count as u64,
+            k.entropy as u64,
+            digit(k.rtx),
+            digit(k.mark),
+        ],
+    }
+}
+
+// The line of any other arrival.
+fn nacked(v: Verdict, k: Nack) -> Shown
+    ensures { λ r. ⌜ Shows (Answer.Nacked v k) r ⌝ }
+{
+    Shown {
+        number: 0,
+        many: 4,
+        values: [
+            code(v),
+            k.psn.0 as u64,
+            k.entropy as u64,
+            digit(k.rtx),
+            0,
+            0,
+            0,
+            0,
+        ],
+    }
+}
+
 // What an answer's line shows.
 pub fn line_of(answer: Answer) -> Shown
     ensures { λ r. ⌜ Shows answer r ⌝ }
@@ -69,34 +111,8 @@ pub fn line_of(answer: Answer) -> Shown
         Answer::Started => none(0),
         Answer::Closed => none(0),
         Answer::Sent(p) => one(p.0 as u64),
-        Answer::Acked(v, k) => Shown {
-            number: 0,
-            many: 8,
-            values: [
-                code(v),
-                k.cack.0 as u64,
-                k.block.base.0 as u64,
-                k.block.bitmap,
-                k.count as u64,
-                k.entropy as u64,
-                digit(k.rtx),
-                digit(k.mark),
-            ],
-        },
-        Answer::Nacked(v, k) => Shown {
-            number: 0,
-            many: 4,
-            values: [
-                code(v),
-                k.psn.0 as u64,
-                k.entropy as u64,
-                digit(k.rtx),
-                0,
-                0,
-                0,
-                0,
-            ],
-        },
+        Answer::Acked(v, k) => acked(v, k),
+        Answer::Nacked(v, k) => nacked(v, k),
         Answer::Retired { newly, place, held } => Shown {
             number: 0,
             many: 3,

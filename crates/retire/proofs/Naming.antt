@@ -1,36 +1,17 @@
 -- The bits that a SACK names, counted from where a word or a block begins: each test is moved to the other's count. Assumes nothing.
 use mathlib.Core.Path.{_≡_, sym, ap, ap₂, _∙_}
-use mathlib.Core.Bool.{Bool, false, not, _&&_, and-true, and-false}
+use mathlib.Core.Bool.{Bool, false, _&&_, and-true, and-false}
 use Prim.Native.Nat.{ℕ, suc, _+_, _-_, _*_, _/_, _%_, _^_, _≤_, _<_}
 use native.Mathlib.Omega.{arith}
-use native.Mathlib.Decide.{decLe, decLt}
-use lib.Dec.{ltb, leb}
+use native.Mathlib.Decide.{decLt}
+use lib.Dec.{leb}
 use borrow.Author.Tests.{lt-ltb, le-ltb, le-leb, lt-leb}
-use Rattle.psn.specs.Psn.{turn, half, after, distance}
+use Rattle.psn.specs.Psn.{turn, half, after}
 use Rattle.word.specs.Word.{bitAt, inRange}
+use Rattle.word.proofs.Compare.{leb-same, leb-not}
 use Rattle.word.proofs.Bits.{bit-none, bit-past, bit-shr, bit-mod, bit-shl-low, bit-shl-high}
 use Rattle.rules.specs.Numbers.{largest-room}
 use Rattle.retire.specs.Rows.{ahead, bitOfBlock}
-
--- ---- tests
--- two tests that pass alike
-pub leb-same : (a b c d : ℕ) → (a ≤ b → c ≤ d) → (c ≤ d → a ≤ b) → leb a b ≡ leb c d
-leb-same a b c d there back = go (decLe a b)
-  where
-    go : Dec (a ≤ b) → leb a b ≡ leb c d
-    go (yes h) = le-leb a b h ∙ sym (le-leb c d (there h))
-    go (no h) = lt-leb a b (omega arith) ∙ sym (past (decLe c d))
-      where
-        past : Dec (c ≤ d) → leb c d ≡ false
-        past (yes l) = absurd (h (back l))
-        past (no l) = lt-leb c d (omega arith)
-
-pub leb-not : (a b : ℕ) → not (leb a b) ≡ ltb b a
-leb-not a b = go (decLe a b)
-  where
-    go : Dec (a ≤ b) → not (leb a b) ≡ ltb b a
-    go (yes h) = rw (le-leb a b h, le-ltb b a h)
-    go (no h) = rw (lt-leb a b (omega arith), lt-ltb b a (omega arith))
 
 -- ---- which bits of a block are unsent: it begins o after place + 1, and n are outstanding
 module _ (o n j : ℕ) (l : j < 64) where

@@ -16,7 +16,8 @@ use Rattle.row.specs.Row.{at, bits, Becomes}
 use Rattle.row.proofs.Rows.{at-word, at-past, row-set, tally-word}
 use Rattle.retire.specs.Rows.{fresh, sizeAt, OneRetired, Retires}
 use Rattle.retire.specs.declared.Retired.{Retired}
-use Rattle.retire.proofs.Naming.{leb-same, size-on}
+use Rattle.word.proofs.Compare.{leb-same}
+use Rattle.retire.proofs.Naming.{size-on}
 
 -- ---- weights
 -- what passes below the end of word j, with its weight

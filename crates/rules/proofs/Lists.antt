@@ -5,7 +5,7 @@ use mathlib.Core.List.{List, [], _∷_, _++_, map}
 use Prim.Native.Nat.{ℕ, zero, suc, _+_, _≤_, _<_}
 use native.Mathlib.Omega.{arith}
 use native.Mathlib.Decide.{ℕ-discrete}
-use lib.ListN.{length, getD, drop, replicate, length-append, length-drop, length-replicate}
+use lib.ListN.{length, getD, drop, set, replicate, length-append, length-drop, length-replicate}
 use lib.Seq.{getD-drop}
 use Rattle.rules.specs.Lists.{lead, slide, any, update}
 use Rattle.rules.specs.Kept.{All}
@@ -108,3 +108,17 @@ module _ {A : Type 0} where
   all-drop P zero l p = p
   all-drop P (suc k) [] p = p
   all-drop P (suc k) (a ∷ l) p = all-drop P k l (p .1)
+
+-- ---- set
+pub map-set : {A B : Type 0} (f : A → B) (l : List A) (i : ℕ) (a : A) → map f (set l i a) ≡ set (map f l) i (f a)
+map-set f [] i a = refl
+map-set f (b ∷ l) zero a = refl
+map-set f (b ∷ l) (suc i) a = ap (λ m. f b ∷ m) (map-set f l i a)
+
+-- what holds of every element holds after one is set
+pub all-set : {A : Type 0} (P : A → Type 0) (d : A) (l : List A) (i : ℕ) (a : A) → ((j : ℕ) → P (getD l j d)) → P a → (j : ℕ) → P (getD (set l i a) j d)
+all-set P d [] i a all p j = all j
+all-set P d (b ∷ l) zero a all p zero = p
+all-set P d (b ∷ l) zero a all p (suc j) = all (suc j)
+all-set P d (b ∷ l) (suc i) a all p zero = all zero
+all-set P d (b ∷ l) (suc i) a all p (suc j) = all-set P d l i a (λ k. all (suc k)) p j

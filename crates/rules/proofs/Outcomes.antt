@@ -20,6 +20,12 @@ unfolding answered within
 answered-within whole (Refused n) = refl
 answered-within whole (Done y a) = refl
 
+-- a test before a part's outcome is one before the whole's
+pub refuse-within : {S T : Type 0} (whole : S → T) (b : Bool) (n : ℕ) (o : Outcome S) → refuse b n (within whole o) ≡ within whole (refuse b n o)
+unfolding refuse within
+refuse-within whole true n o = refl
+refuse-within whole false n o = refl
+
 -- an invariant of a record holds after an event on x
 pub record After {S : Type 0} (P : S → Type 0) (x : S) (o : Outcome S) : Type 0 where
   pub holds : P (left x o)

@@ -1,14 +1,12 @@
 -- A connection is empty on both sides or in use on both, whatever the event: an empty one refuses all but a start, and any other event
 -- touches one side. So is every slot of a table. Assumes nothing.
-use mathlib.Core.Path.{_≡_, refl, sym, ap, _∙_, subst}
+use mathlib.Core.Path.{_≡_, refl, sym, subst}
 use mathlib.Core.Bool.{false}
 use mathlib.Core.List.{List}
 use mathlib.Core.Logic.{inl, inr}
 use Prim.Native.Nat.{ℕ, _<_}
-use native.Mathlib.Decide.{ℕ-discrete}
 use lib.Dec.{leb}
 use lib.ListN.{length, set}
-use lib.Seq.{getD-set-same, getD-set-other}
 use borrow.Author.Tests.{leb-false, ltb-true, not-false}
 use Rattle.psn.specs.declared.Psn.{Psn}
 use Rattle.rules.specs.Numbers.{turn, slots, room-ok, psn-ok}
@@ -22,6 +20,7 @@ use Rattle.rules.specs.Table.{at, outside, on}
 use Rattle.rules.specs.Kept.{Receives, Sends, Runs, Whole, AllWhole}
 use Rattle.rules.specs.declared.Event.{Event}
 use Rattle.rules.specs.declared.Event.the-variants as event
+use Rattle.rules.proofs.Lists.{all-set}
 use Rattle.rules.proofs.Joined.{and-true-each, or-false-each}
 use Rattle.rules.proofs.Outcomes.{After, after-refuse, after-refused, after-done, after-within}
 use Rattle.rules.proofs.Receives.{receives-fresh, receives-arrive}
@@ -75,15 +74,8 @@ pub inside : (t : List Connection) (slot : ℕ) → outside t slot ≡ false →
 unfolding outside
 inside t slot h = leb-false (length t) slot (or-false-each (leb slots slot) (leb (length t) slot) h .1)
 
-all-set : (t : List Connection) (slot : ℕ) (c : Connection) → slot < length t → AllWhole t → Whole c → AllWhole (set t slot c)
-all-set t slot c l w k s = go (ℕ-discrete s slot)
-  where
-    go : Dec (s ≡ slot) → Whole (at (set t slot c) s)
-    go (yes e) = subst Whole (sym (ap (at (set t slot c)) e ∙ getD-set-same t slot c empty l)) k
-    go (no e) = subst Whole (sym (getD-set-other t slot s c empty e)) (w s)
-
 pub whole-on : (t : List Connection) (slot : ℕ) (e : Event) → AllWhole t → After AllWhole t (on t slot e)
 unfolding on
 whole-on t slot e w =
-    after-refuse AllWhole t _ _ _ w λ h. after-refuse AllWhole t _ _ _ w λ _.
-    after-within Whole AllWhole (set t slot) (at t slot) t _ (whole-step (at t slot) e (w slot)) w (λ c k. all-set t slot c (inside t slot h) w k)
+    after-refuse AllWhole t _ _ _ w λ _. after-refuse AllWhole t _ _ _ w λ _.
+    after-within Whole AllWhole (set t slot) (at t slot) t _ (whole-step (at t slot) e (w slot)) w (λ c k. all-set Whole empty t slot c w k)

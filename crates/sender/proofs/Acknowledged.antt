@@ -26,7 +26,8 @@ use Rattle.rules.specs.declared.Answer.the-variants as answer
 use Rattle.rules.proofs.Joined.{and-true-each, or-false-each}
 use Rattle.retire.specs.Rows.{names, fresh, sizeAt, Retires}
 use Rattle.retire.specs.declared.Sum.{Sum}
-use Rattle.retire.proofs.Naming.{leb-same, size-on}
+use Rattle.word.proofs.Compare.{leb-same}
+use Rattle.retire.proofs.Naming.{size-on}
 use Rattle.sender.specs.declared.Sender.{Sender}
 use Rattle.sender.specs.Record.{meaning, entry, offset, size-at, Started}
 use Rattle.word.proofs.Index.{first-from}

@@ -1,3 +1,4 @@
--- What other crates cite: laws on functions of the index, and laws on a word's bits. Assumes nothing.
+-- What other crates cite: laws on functions of the index, on tests, and on a word's bits. Assumes nothing.
 pub mod Index
+pub mod Compare
 pub mod Bits

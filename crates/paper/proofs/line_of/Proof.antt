@@ -2,7 +2,7 @@
 use mathlib.Core.Path.{refl}
 use native.Mathlib.Omega.{arith}
 use Rattle.rules.specs.Paper.{paper}
-use Rattle.paper.proofs.Showing.{shows, shows-none, shows-one, acked-same, nacked-same}
+use Rattle.paper.proofs.Showing.{shows, shows-as, shows-none, shows-one}
 use borrow.Author.Needs.{needs}
 use Rattle.paper.proofs.line_of.Statement.{statement}
 use Rattle.paper.proofs.line_of.Tie as tie
@@ -37,53 +37,26 @@ one-requires c κs = search needs
 enum-known-answer-3 : tie.Need-enum-known-answer-3
 enum-known-answer-3 c = search needs
 
-code-requires : tie.Need-code-requires
-code-requires c κs = search needs
+acked-requires : tie.Need-acked-requires
+acked-requires c κs = search needs
+
+enum-known-answer-4 : tie.Need-enum-known-answer-4
+enum-known-answer-4 c = search needs
+
+nacked-requires : tie.Need-nacked-requires
+nacked-requires c κs = search needs
+
+enum-known-answer-5 : tie.Need-enum-known-answer-5
+enum-known-answer-5 c = search needs
+
+cast-t16 : tie.Need-cast-t16
+cast-t16 c = search needs
 
 cast-t17 : tie.Need-cast-t17
 cast-t17 c = search needs
 
 cast-t18 : tie.Need-cast-t18
 cast-t18 c = search needs
-
-cast-t19 : tie.Need-cast-t19
-cast-t19 c = search needs
-
-cast-t20 : tie.Need-cast-t20
-cast-t20 c = search needs
-
-digit-requires : tie.Need-digit-requires
-digit-requires c κs = search needs
-
-digit-requires-2 : tie.Need-digit-requires-2
-digit-requires-2 c κs = search needs
-
-enum-known-answer-4 : tie.Need-enum-known-answer-4
-enum-known-answer-4 c = search needs
-
-code-requires-2 : tie.Need-code-requires-2
-code-requires-2 c κs = search needs
-
-cast-t25 : tie.Need-cast-t25
-cast-t25 c = search needs
-
-cast-t26 : tie.Need-cast-t26
-cast-t26 c = search needs
-
-digit-requires-3 : tie.Need-digit-requires-3
-digit-requires-3 c κs = search needs
-
-enum-known-answer-5 : tie.Need-enum-known-answer-5
-enum-known-answer-5 c = search needs
-
-cast-t29 : tie.Need-cast-t29
-cast-t29 c = search needs
-
-cast-t30 : tie.Need-cast-t30
-cast-t30 c = search needs
-
-cast-t31 : tie.Need-cast-t31
-cast-t31 c = search needs
 
 enum-known-answer-6 : tie.Need-enum-known-answer-6
 enum-known-answer-6 c = search needs
@@ -130,15 +103,11 @@ returns-4 c = shows-one _ _ _ _ (c .before .before .before .answer2 .given .1) r
 
 returns-5 : tie.Need-returns-5
 unfolding paper
-returns-5 c =
-    shows _ _ _ (c .before .before .before .before .before .before .before .before .answer3 .given .1) refl
-    (acked-same _ _ _ _ _ _ _ _ _ _ _ (c .before .before .before .before .before .before .code .ensures) (c .before .digit .ensures) (c .digit2 .ensures)) (omega arith)
+returns-5 c = shows-as _ _ _ (c .before .before .answer3 .given .1) (c .acked .ensures)
 
 returns-6 : tie.Need-returns-6
 unfolding paper
-returns-6 c =
-    shows _ _ _ (c .before .before .before .before .before .answer4 .given .1) refl
-    (nacked-same _ _ _ _ _ _ (c .before .before .before .code2 .ensures) (c .digit3 .ensures)) (omega arith)
+returns-6 c = shows-as _ _ _ (c .before .before .answer4 .given .1) (c .nacked .ensures)
 
 returns-7 : tie.Need-returns-7
 unfolding paper
@@ -170,22 +139,13 @@ line-of-spec =
     cast-one
     one-requires
     enum-known-answer-3
-    code-requires
+    acked-requires
+    enum-known-answer-4
+    nacked-requires
+    enum-known-answer-5
+    cast-t16
     cast-t17
     cast-t18
-    cast-t19
-    cast-t20
-    digit-requires
-    digit-requires-2
-    enum-known-answer-4
-    code-requires-2
-    cast-t25
-    cast-t26
-    digit-requires-3
-    enum-known-answer-5
-    cast-t29
-    cast-t30
-    cast-t31
     enum-known-answer-6
     cast-one-2
     one-requires-2

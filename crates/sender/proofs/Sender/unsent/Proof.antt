@@ -1,7 +1,7 @@
 -- `Sender::unsent` meets its contract: an index below what is outstanding is sent, and any other is ahead or behind. Assumes nothing.
 use mathlib.Core.Path.{sym, _∙_}
 use Rattle.psn.specs.Psn.{half}
-use Rattle.retire.proofs.Naming.{leb-not}
+use Rattle.word.proofs.Compare.{leb-not}
 use Rattle.sender.proofs.Judged.{unsent-is, sent-below, unsent-past}
 use borrow.Author.Needs.{needs}
 use Rattle.sender.proofs.Sender.unsent.Statement.{statement}
