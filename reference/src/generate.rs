@@ -251,14 +251,14 @@ pub fn log(seed: u64, i: usize) -> Vec<u8> {
                 let length = chance.below(bytes.len() as u64) as usize;
                 bytes[..length].to_vec()
             }
-            3 | 4 => edges(&mut chance, 1500),
+            3 | 4 => edges(&mut chance, 500),
             5 => {
                 let (room, first) = (64 * (1 + (n as u64 / 8) % 8), some_first(&mut chance));
-                traffic(&mut chance, room, first, 3000)
+                traffic(&mut chance, room, first, 1500)
             }
             _ => {
                 let (room, first) = (some_room(&mut chance), some_first(&mut chance));
-                traffic(&mut chance, room, first, 800)
+                traffic(&mut chance, room, first, 400)
             }
         },
     }
