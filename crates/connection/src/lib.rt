@@ -7,7 +7,6 @@ use psn::Psn;
 use receiver::Arrived;
 use receiver::Receiver;
 use rules::Answer;
-use rules::Arrival;
 use rules::Event;
 use sender::Sender;
 

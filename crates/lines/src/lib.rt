@@ -1,6 +1,5 @@
 // Text that is put together in a buffer that the caller lends: each function puts bytes from an index on and answers the index after
 // them. What no longer fits is left out.
-ghost use mathlib.Core.Path.{_≡_};
 ghost use mathlib.Core.List.{[], _∷_};
 ghost use Rattle.lines.specs.Text.{decimal as decimalOf, Puts};
 

@@ -1,12 +1,19 @@
 -- The number of an answer and the values of its line, in the code's array.
-use mathlib.Core.Path.{_≡_}
-use Prim.Native.Nat.{_≤_}
-use lib.ListN.{take}
+use mathlib.Core.List.{List, _++_}
+use Prim.Native.Nat.{ℕ}
+use lib.ListN.{length, take, replicate}
 use Rattle.rules.specs.Paper.{paper}
 use Rattle.rules.specs.declared.Answer.{Answer}
 use Rattle.paper.specs.declared.Shown.{Shown}
 
-pub record Shows (a : Answer) (r : Shown) : Type 0 where
-  pub number-is : r .number ≡ paper a .number
-  pub values-are : take (r .many) (r .values) ≡ paper a .values
-  pub few : r .many ≤ 8
+-- the most values that a line has: those of a SACK
+abbrev pub most : ℕ
+most = 8
+
+-- a number and values, with 0 where the line has no value
+abbrev pub filled : ℕ → List ℕ → Shown
+filled n l = record { number = n; many = length l; values = take most (l ++ replicate most 0) }
+
+-- what an answer's line shows
+abbrev pub shown : Answer → Shown
+shown a = filled (paper a .number) (paper a .values)

@@ -1,9 +1,8 @@
 // What an answer is on paper: its number, and the values that its line shows.
 ghost use mathlib.Core.Path.{_≡_};
 ghost use mathlib.Core.List.{[], _∷_};
-ghost use lib.ListN.{take};
 ghost use Rattle.rules.specs.Paper.{code as codeOf, digit as digitOf};
-ghost use Rattle.paper.specs.Shown.{Shows};
+ghost use Rattle.paper.specs.Shown.{filled, shown};
 use rules::Answer;
 use rules::Nack;
 use rules::Sack;
@@ -12,7 +11,7 @@ use rules::Verdict;
 // The most values that a line has.
 pub const VALUES: usize = 8;
 
-// The number of an answer and the values that its line shows: the first `many`.
+// The number of an answer and the values that its line shows: the first `many`. The others are 0.
 pub struct Shown {
     pub number: u8,
     pub many: usize,
@@ -33,6 +32,7 @@ pub fn code(v: Verdict) -> u64
     }
 }
 
+// A flag as a value.
 fn digit(b: bool) -> u64
     ensures { λ r. ⌜ r ≡ digitOf b ⌝ }
 {
@@ -42,8 +42,9 @@ fn digit(b: bool) -> u64
     0
 }
 
+// A line of a number alone.
 fn none(number: u8) -> Shown
-    ensures { λ r. ⌜ (r .number ≡ number) × (r .many ≡ 0) ⌝ }
+    ensures { λ r. ⌜ r ≡ filled number [] ⌝ }
 {
     Shown {
         number,
@@ -52,8 +53,9 @@ fn none(number: u8) -> Shown
     }
 }
 
+// A line of one value.
 fn one(value: u64) -> Shown
-    ensures { λ r. ⌜ (r .number ≡ 0) × (r .many ≡ 1) × (take 1 (r .values) ≡ value ∷ []) ⌝ }
+    ensures { λ r. ⌜ r ≡ filled 0 (value ∷ []) ⌝ }
 {
     Shown {
         number: 0,
@@ -64,7 +66,7 @@ fn one(value: u64) -> Shown
 
 // The line of an arrival that is fresh or known.
 fn acked(v: Verdict, k: Sack) -> Shown
-    ensures { λ r. ⌜ Shows (Answer.Acked v k) r ⌝ }
+    ensures { λ r. ⌜ r ≡ shown (Answer.Acked v k) ⌝ }
 {
     Shown {
         number: 0,
@@ -84,7 +86,7 @@ fn acked(v: Verdict, k: Sack) -> Shown
 
 // The line of any other arrival.
 fn nacked(v: Verdict, k: Nack) -> Shown
-    ensures { λ r. ⌜ Shows (Answer.Nacked v k) r ⌝ }
+    ensures { λ r. ⌜ r ≡ shown (Answer.Nacked v k) ⌝ }
 {
     Shown {
         number: 0,
@@ -104,7 +106,7 @@ fn nacked(v: Verdict, k: Nack) -> Shown
 
 // What an answer's line shows.
 pub fn line_of(answer: Answer) -> Shown
-    ensures { λ r. ⌜ Shows answer r ⌝ }
+    ensures { λ r. ⌜ r ≡ shown answer ⌝ }
 {
     match answer {
         Answer::Refused(number) => none(number),

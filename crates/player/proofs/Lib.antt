@@ -1,3 +1,4 @@
 -- What turns amount to.
 pub mod Turning
 pub mod Playing
+pub mod Settled

@@ -37,33 +37,36 @@ module _ (log : List ℕ) where
   stopped : (x : State) (r : Turn) (v : Read) (rest : List rule.Connection → ℕ → Replayed) → By x r v → r .more ≡ false
       → made [] (stop (r .stop) (x .place) (x .count)) ≡ replied rest (meaning (x .table .slots)) (x .place) (x .count) v
   unfolding By replied
-  stopped x r (Record slot e kind next) rest b h = absurd (false≢true (sym h ∙ b .0))
-  stopped x r (Nothing n) rest b h = ap (λ (k : ℕ). made [] (stop k (x .place) (x .count))) (b .1)
+  stopped x r (Record slot e kind next) rest b h = absurd (false≢true (sym h ∙ b .more-is))
+  stopped x r (Nothing n) rest b h = ap (λ (k : ℕ). made [] (stop k (x .place) (x .count))) (b .stop-is)
 
   -- a record's turn, and those after it
-  went : (x : State) (r : Turn) (v : Read) (rest : List rule.Connection → ℕ → Replayed) (l : List Replied) (last : Last) → By x r v → r .more ≡ true → read log (x .place) ≡ v
+  went : (x : State) (r : Turn) (v : Read) (rest : List rule.Connection → ℕ → Replayed) (l : List Replied) (last : Last)
+      → By x r v → r .more ≡ true → read log (x .place) ≡ v
       → (to-go log (r .state) < to-go log x → made l last ≡ rest (meaning (r .state .table .slots)) (r .state .place))
       → made (record { kind = r .kind; answer = r .answer } ∷ l) last ≡ replied rest (meaning (x .table .slots)) (x .place) (x .count) v
   unfolding By replied then
-  went x r (Nothing n) rest l last b h e k = absurd (false≢true (sym (b .0) ∙ h))
+  went x r (Nothing n) rest l last b h e k = absurd (false≢true (sym (b .more-is) ∙ h))
   went x r (Record slot e kind next) rest l last b h f k =
       let moved = read-kind log (x .place) slot e kind next f in
-      let answer-is = answers-apart (r .answer) (answered (on (meaning (x .table .slots)) slot e)) (b .2 .answer-is) in
-      let falls : to-go log (r .state) < to-go log x = omega (arith, b .3, moved .1, moved .2) in
-      ap₂ then (λ i. record { kind = b .1 i; answer = answer-is i }) (k falls ∙ ap₂ rest (b .2 .record-is) (b .3))
+      let answer-is = answers-apart (r .answer) (answered (on (meaning (x .table .slots)) slot e)) (b .answer-meets .answer-is) in
+      let falls : to-go log (r .state) < to-go log x = omega (arith, b .place-is, moved .1, moved .2) in
+      ap₂ then (λ i. record { kind = b .kind-is i; answer = answer-is i }) (k falls ∙ ap₂ rest (b .answer-meets .record-is) (b .place-is))
 
   counted : (x : State) (r : Turn) (v : Read) → By x r v → r .more ≡ true → r .state .count ≡ suc (x .count)
   unfolding By
-  counted x r (Record slot e kind next) b h = b .4 ∙ add-one (x .count)
-  counted x r (Nothing n) b h = absurd (false≢true (sym (b .0) ∙ h))
+  counted x r (Record slot e kind next) b h = b .count-is ∙ add-one (x .count)
+  counted x r (Nothing n) b h = absurd (false≢true (sym (b .more-is) ∙ h))
 
-  plays-from : (most : ℕ) {x : State} {l : List Replied} {last : Last} → Plays log x l last → to-go log x < most → made l last ≡ replay-from most log (meaning (x .table .slots)) (x .place) (x .count)
+  plays-from : (most : ℕ) {x : State} {l : List Replied} {last : Last} → Plays log x l last → to-go log x < most
+      → made l last ≡ replay-from most log (meaning (x .table .slots)) (x .place) (x .count)
   unfolding replay-from
   plays-from zero p h = absurd (omega arith)
   plays-from (suc most) (stops {x = x} r t more) h = stopped x r (read log (x .place)) _ (t .by-rule) more
   plays-from (suc most) (goes-on {x = x} r t more p) h =
       went x r (read log (x .place)) _ _ _ (t .by-rule) more refl
-      (λ falls. plays-from most p (omega arith) ∙ ap (replay-from most log (meaning (r .state .table .slots)) (r .state .place)) (counted x r (read log (x .place)) (t .by-rule) more))
+      (λ falls. plays-from most p (omega arith)
+      ∙ ap (replay-from most log (meaning (r .state .table .slots)) (r .state .place)) (counted x r (read log (x .place)) (t .by-rule) more))
 
 -- the program's lines and its last line are those of the rules' replay
 pub plays-replay : (log : List ℕ) (l : List Replied) (last : Last) → Plays log begin l last → made l last ≡ replay log

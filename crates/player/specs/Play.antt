@@ -9,6 +9,8 @@ use Rattle.rules.specs.Promise.{Meets}
 use Rattle.rules.specs.Table.{on}
 use Rattle.rules.specs.Log.{read}
 use Rattle.rules.specs.Replay.{Replied, Last, stop}
+use Rattle.rules.specs.declared.Answer.the-variants as answer
+use Rattle.rules.specs.declared.Event.{Event}
 use Rattle.rules.specs.declared.Read.{Read}
 use Rattle.rules.specs.declared.Read.the-variants.{Record, Nothing}
 use Rattle.connection.specs.Record.{empty}
@@ -25,11 +27,27 @@ pub record Sound (x : State) : Type 0 where
   pub slots-sound : AllSound (x .table .slots)
   pub count-low : x .count ≤ x .place
 
--- what is read at the place is answered as the rules say, or ends the log
+-- a record is read: the rules' answer, and the place and the count go on
+pub record GoesOn (x : State) (slot : ℕ) (e : Event) (kind next : ℕ) (r : Turn) : Type 0 where
+  pub more-is : r .more ≡ true
+  pub kind-is : r .kind ≡ kind
+  pub answer-meets : Meets AllSound meaning (x .table .slots) (on (meaning (x .table .slots)) slot e) (r .answer) (r .state .table .slots)
+  pub stop-is : r .stop ≡ 0
+  pub place-is : r .state .place ≡ next
+  pub count-is : r .state .count ≡ x .count + 1
+
+-- nothing is read, for the reason n: everything stays, and nothing stands beside the number
+pub record Stops (x : State) (n : ℕ) (r : Turn) : Type 0 where
+  pub more-is : r .more ≡ false
+  pub kind-is : r .kind ≡ 0
+  pub answer-is : r .answer ≡ answer.Refused n
+  pub stop-is : r .stop ≡ n
+  pub state-is : r .state ≡ x
+
+-- what is read at the place is answered, or ends the log
 unfoldable pub By : State → Turn → Read → Type 0
-By x r (Record slot e kind next) =
-    (r .more ≡ true) × (r .kind ≡ kind) × Meets AllSound meaning (x .table .slots) (on (meaning (x .table .slots)) slot e) (r .answer) (r .state .table .slots) × (r .state .place ≡ next) × (r .state .count ≡ x .count + 1)
-By x r (Nothing n) = (r .more ≡ false) × (r .stop ≡ n) × (r .state ≡ x)
+By x r (Record slot e kind next) = GoesOn x slot e kind next r
+By x r (Nothing n) = Stops x n r
 
 pub record Turned (log : List ℕ) (x : State) (r : Turn) : Type 0 where
   pub by-rule : By x r (read log (x .place))
@@ -38,4 +56,5 @@ pub record Turned (log : List ℕ) (x : State) (r : Turn) : Type 0 where
 -- the lines and the last line of turn after turn, each any that its promise allows
 pub data Plays (log : List ℕ) : State → List Replied → Last → Type 0 where
   stops : {x : State} (r : Turn) → Turned log x r → r .more ≡ false → Plays log x [] (stop (r .stop) (x .place) (x .count))
-  goes-on : {x : State} (r : Turn) {l : List Replied} {last : Last} → Turned log x r → r .more ≡ true → Plays log (r .state) l last → Plays log x (record { kind = r .kind; answer = r .answer } ∷ l) last
+  goes-on : {x : State} (r : Turn) {l : List Replied} {last : Last} → Turned log x r → r .more ≡ true → Plays log (r .state) l last
+      → Plays log x (record { kind = r .kind; answer = r .answer } ∷ l) last

@@ -1,6 +1,6 @@
 // Packet numbers, round the circle of 2^24.
 ghost use mathlib.Core.Path.{_≡_};
-ghost use Rattle.psn.specs.Psn.{turn, after, distance};
+ghost use Rattle.psn.specs.Psn.{after, distance};
 
 // How many packet numbers there are.
 pub const TURN: u32 = 16_777_216;

@@ -1,7 +1,7 @@
 // The receiving side. Its words hold the packet numbers from E's own block of 64 on: bit b of word j is number 64 j + b of that block and
 // those after it. All before E are accepted, so their bits are set; no bit past the window is.
 ghost use mathlib.Core.Path.{_≡_};
-ghost use Rattle.rules.specs.Receiver.{accept as acceptOf, arrive as arriveOf, judge as judgeOf, nackOf, reasonOf, sackOf, start as startOf, verdict};
+ghost use Rattle.rules.specs.Receiver.{accept as acceptOf, arrive as arriveOf, nackOf, reasonOf, sackOf, start as startOf, verdict};
 ghost use Rattle.rules.specs.Promise.{Meets};
 ghost use Rattle.rules.specs.declared.Verdict.the-variants.{Fresh};
 ghost use Rattle.receiver.specs.Held.{held, meaning, Started};

@@ -3,3 +3,4 @@
 pub mod Naming
 pub mod Walk
 pub mod Words
+pub mod Settled

@@ -1,2 +1,3 @@
 -- What other crates cite: laws on the bits of a row of words. Assumes nothing.
 pub mod Rows
+pub mod Settled

@@ -2,17 +2,17 @@
 use mathlib.Core.Path.{_≡_, sym, ap, ap₂, _∙_}
 use mathlib.Core.Bool.{Bool, false}
 use mathlib.Core.List.{List}
-use Prim.Native.Nat.{ℕ, _+_, _-_, _*_, _/_, _%_, _^_, _≤_, _<_}
+use Prim.Native.Nat.{ℕ, _+_, _-_, _*_, _/_, _%_, _≤_, _<_}
 use native.Mathlib.Omega.{arith}
 use native.Mathlib.Decide.{ℕ-discrete, decLt}
 use lib.Dec.{eqb}
 use lib.ListN.{length, getD, set, List·getD-eq-default}
-use lib.Seq.{getD-set-same, getD-set-other, ext-getD}
+use lib.Seq.{getD-set-same, getD-set-other}
 use borrow.Author.Tests.{eq-eqb, ne-eqb, lt-ltb, le-ltb}
 use Rattle.word.specs.Index.{tally}
 use Rattle.word.specs.Word.{bitAt, Bits, bitOfTwo}
 use Rattle.word.proofs.Index.{total-add, weigh-same}
-use Rattle.word.proofs.Bits.{bit-none, bits-one}
+use Rattle.word.proofs.Bits.{bit-none}
 use Rattle.row.specs.Row.{at, bits, Row}
 
 -- ---- one bit
@@ -50,14 +50,6 @@ row-words ws f h p =
     let e : p ≡ 64 * (p / 64) + p % 64 = omega arith in
     let l : p % 64 < 64 = omega arith in
     ap (at ws) e ∙ at-word ws (p / 64) (p % 64) l ∙ h (p / 64) (p % 64) l ∙ sym (ap f e)
-
--- two rows of one length with the same bits are one
-pub row-one : (vs ws : List ℕ) (f : ℕ → Bool) → length vs ≡ length ws
-    → ((j : ℕ) → j < length vs → getD vs j 0 < 2 ^ 64) → ((j : ℕ) → j < length ws → getD ws j 0 < 2 ^ 64)
-    → Row vs f → Row ws f → vs ≡ ws
-row-one vs ws f e small small′ h h′ =
-    ext-getD 0 vs ws e
-    (λ j l. bits-one (getD vs j 0) (getD ws j 0) (λ b. f (64 * j + b)) (small j l) (small′ j (omega arith)) (row-word vs f h j) (row-word ws f h′ j))
 
 -- ---- one word replaced
 pub row-set : (ws : List ℕ) (j v : ℕ) (f : ℕ → Bool) → j < length ws → Bits v (λ b. f (64 * j + b))

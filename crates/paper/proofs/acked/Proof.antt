@@ -1,8 +1,6 @@
 -- `acked` meets its contract: its values are a SACK's. Assumes nothing.
-use mathlib.Core.Path.{refl}
-use native.Mathlib.Omega.{arith}
 use Rattle.rules.specs.Paper.{paper}
-use Rattle.paper.proofs.Showing.{shows, acked-same}
+use Rattle.paper.proofs.Showing.{acked-same}
 use borrow.Author.Needs.{needs}
 use Rattle.paper.proofs.acked.Statement.{statement}
 use Rattle.paper.proofs.acked.Tie as tie
@@ -30,7 +28,9 @@ digit-requires-2 c κs = search needs
 
 returns : tie.Need-returns
 unfolding paper
-returns c = shows _ _ _ refl refl (acked-same _ _ _ _ _ _ _ _ _ _ _ (c .before .before .before .before .before .before .code .ensures) (c .before .digit .ensures) (c .digit2 .ensures)) (omega arith)
+returns c =
+    acked-same _ _ _ _ _ _ _ _ _ _ _ (c .before .before .before .before .before .before .code .ensures) (c .before .digit .ensures)
+    (c .digit2 .ensures)
 
 pub acked-spec : {M : Type 1} → statement M
 acked-spec =

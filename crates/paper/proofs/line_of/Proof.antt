@@ -1,8 +1,7 @@
 -- `line_of` meets its contract: each arm knows its case, and its values are that case's. Assumes nothing.
 use mathlib.Core.Path.{refl}
-use native.Mathlib.Omega.{arith}
 use Rattle.rules.specs.Paper.{paper}
-use Rattle.paper.proofs.Showing.{shows, shows-as, shows-none, shows-one}
+use Rattle.paper.proofs.Showing.{shows}
 use borrow.Author.Needs.{needs}
 use Rattle.paper.proofs.line_of.Statement.{statement}
 use Rattle.paper.proofs.line_of.Tie as tie
@@ -87,43 +86,43 @@ one-requires-4 c κs = search needs
 
 returns : tie.Need-returns
 unfolding paper
-returns c = shows-none _ _ _ _ (c .before .before .answer .given .1) refl refl (c .none .ensures)
+returns c = shows _ _ _ (c .before .before .answer .given .1) (c .none .ensures)
 
 returns-2 : tie.Need-returns-2
 unfolding paper
-returns-2 c = shows-none _ _ _ _ (c .before .enum-told .given .1) refl refl (c .none2 .ensures)
+returns-2 c = shows _ _ _ (c .before .enum-told .given .1) (c .none2 .ensures)
 
 returns-3 : tie.Need-returns-3
 unfolding paper
-returns-3 c = shows-none _ _ _ _ (c .before .enum-told2 .given .1) refl refl (c .none3 .ensures)
+returns-3 c = shows _ _ _ (c .before .enum-told2 .given .1) (c .none3 .ensures)
 
 returns-4 : tie.Need-returns-4
 unfolding paper
-returns-4 c = shows-one _ _ _ _ (c .before .before .before .answer2 .given .1) refl refl (c .one .ensures)
+returns-4 c = shows _ _ _ (c .before .before .before .answer2 .given .1) (c .one .ensures)
 
 returns-5 : tie.Need-returns-5
 unfolding paper
-returns-5 c = shows-as _ _ _ (c .before .before .answer3 .given .1) (c .acked .ensures)
+returns-5 c = shows _ _ _ (c .before .before .answer3 .given .1) (c .acked .ensures)
 
 returns-6 : tie.Need-returns-6
 unfolding paper
-returns-6 c = shows-as _ _ _ (c .before .before .answer4 .given .1) (c .nacked .ensures)
+returns-6 c = shows _ _ _ (c .before .before .answer4 .given .1) (c .nacked .ensures)
 
 returns-7 : tie.Need-returns-7
 unfolding paper
-returns-7 c = shows _ _ _ (c .before .before .answer5 .given .1) refl refl (omega arith)
+returns-7 c = shows _ _ _ (c .before .before .answer5 .given .1) refl
 
 returns-8 : tie.Need-returns-8
 unfolding paper
-returns-8 c = shows-one _ _ _ _ (c .before .before .answer6 .given .1) refl refl (c .one2 .ensures)
+returns-8 c = shows _ _ _ (c .before .before .answer6 .given .1) (c .one2 .ensures)
 
 returns-9 : tie.Need-returns-9
 unfolding paper
-returns-9 c = shows-one _ _ _ _ (c .before .before .answer7 .given .1) refl refl (c .one3 .ensures)
+returns-9 c = shows _ _ _ (c .before .before .answer7 .given .1) (c .one3 .ensures)
 
 returns-10 : tie.Need-returns-10
 unfolding paper
-returns-10 c = shows-one _ _ _ _ (c .before .before .before .answer8 .given .1) refl refl (c .one4 .ensures)
+returns-10 c = shows _ _ _ (c .before .before .before .answer8 .given .1) (c .one4 .ensures)
 
 pub line-of-spec : {M : Type 1} → statement M
 line-of-spec =

@@ -1,8 +1,6 @@
 -- `nacked` meets its contract: its values are a NACK's. Assumes nothing.
-use mathlib.Core.Path.{refl}
-use native.Mathlib.Omega.{arith}
 use Rattle.rules.specs.Paper.{paper}
-use Rattle.paper.proofs.Showing.{shows, nacked-same}
+use Rattle.paper.proofs.Showing.{nacked-same}
 use borrow.Author.Needs.{needs}
 use Rattle.paper.proofs.nacked.Statement.{statement}
 use Rattle.paper.proofs.nacked.Tie as tie
@@ -21,7 +19,7 @@ digit-requires c κs = search needs
 
 returns : tie.Need-returns
 unfolding paper
-returns c = shows _ _ _ refl refl (nacked-same _ _ _ _ _ _ (c .before .before .before .code .ensures) (c .digit .ensures)) (omega arith)
+returns c = nacked-same _ _ _ _ _ _ (c .before .before .before .code .ensures) (c .digit .ensures)
 
 pub nacked-spec : {M : Type 1} → statement M
 nacked-spec = tie.close (tie.spec code-requires cast-t4 cast-t5 digit-requires returns)

@@ -19,18 +19,27 @@ on-requires : tie.Need-on-requires
 on-requires c κs = search needs
 
 add-t16 : tie.Need-add-t16
-add-t16 c = record { fits = omega (arith, count-behind (c .before .before .before .before .before .before .before .before .args .log .now) _ (c .before .before .before .before .before .before .before .before .args .self .count) _ _ _ _ (answered-read _ _ _ _ (c .before .before .before .before .before .before .read .ensures) (c .before .before .before .before .slot .given .1)) (c .before .before .before .before .before .before .before .before .pre .count-low)) }
+add-t16 c =
+    let entry = c .before .before .before .before .before .before .before .before in
+    let is-record = answered-read _ _ _ _ (c .before .before .before .before .before .before .read .ensures) (c .before .before .before .before .slot .given .1) in
+    record { fits = omega (arith, count-behind (entry .args .log .now) _ (entry .args .self .count) _ _ _ _ is-record (entry .pre .count-low)) }
 
 enum-known-stop : tie.Need-enum-known-stop
 enum-known-stop c = search needs
 
 returns : tie.Need-returns
 returns c =
-    turned-on (c .before .before .before .before .before .before .before .before .args .log .now) (c .before .before .before .before .before .before .before .before .args .self) _ _ _ _ _ (c .before .before .before .before .before .before .before .before .pre) (answered-read _ _ _ _ (c .before .before .before .before .before .before .read .ensures) (c .before .before .before .before .slot .given .1)) refl refl (c .before .on .ensures) refl refl
+    let entry = c .before .before .before .before .before .before .before .before in
+    let is-record = answered-read _ _ _ _ (c .before .before .before .before .before .before .read .ensures) (c .before .before .before .before .slot .given .1) in
+    turned-on (entry .args .log .now) (entry .args .self) _ _ _ _ _ (entry .pre) is-record
+    (record { more-is = refl; kind-is = refl; answer-meets = c .before .on .ensures; stop-is = refl; place-is = refl; count-is = refl })
 
 returns-2 : tie.Need-returns-2
 returns-2 c =
-    turned-off (c .before .before .before .before .before .args .log .now) (c .before .before .before .before .before .args .self) _ _ (c .before .before .before .before .before .pre) (answered-read _ _ _ _ (c .before .before .before .read .ensures) (c .before .stop .given .1)) refl refl refl
+    let entry = c .before .before .before .before .before in
+    let is-nothing = answered-read _ _ _ _ (c .before .before .before .read .ensures) (c .before .stop .given .1) in
+    turned-off (entry .args .log .now) (entry .args .self) _ _ (entry .pre) is-nothing
+    (record { more-is = refl; kind-is = refl; answer-is = refl; stop-is = refl; state-is = refl })
 
 pub turn-spec : {M : Type 1} → statement M
 turn-spec =
