@@ -115,33 +115,55 @@ const REACHABLE: &[(usize, &[u64])] = &[
     (8, &[0, 1, 2, 9]),
 ];
 
-fn compare(from: usize, count: usize, seed: u64, command: &[String]) {
-    let mut seen: BTreeMap<(usize, u64), u64> = BTreeMap::new();
-    for i in from..from + count {
-        let log = generate::log(seed, i);
-        let last = log::replay(&log, |record, outcome| {
-            let answer = match outcome {
-                Err(number) => u64::from(*number),
-                Ok(values) if record.kind == 4 => 100 + values[0],
-                Ok(_) => 0,
-            };
-            *seen.entry((record.kind, answer)).or_default() += 1;
-        });
-        let end = match last {
-            log::Last::End(_) => 0,
-            log::Last::Refused(number, _) => u64::from(number),
+/// How often each (kind, answer) pair was seen.
+type Seen = BTreeMap<(usize, u64), u64>;
+
+/// Has the command replay log i of a seed, which must make its records again from its own words.
+fn compare_one(i: usize, seed: u64, command: &[String], seen: &mut Seen) {
+    let log = generate::log(seed, i);
+    let last = log::replay(&log, |record, outcome| {
+        let answer = match outcome {
+            Err(number) => u64::from(*number),
+            Ok(values) if record.kind == 4 => 100 + values[0],
+            Ok(_) => 0,
         };
-        *seen.entry((0, end)).or_default() += 1;
-        let back = bytes(&words(&log));
-        if !log.starts_with(&back) {
-            fail(format!("log {i} of seed {seed}: its words do not make its records again"));
-        }
-        let expected = log::text(&log);
-        let found = replayed(command, &log);
-        if found.as_ref() != Ok(&expected) {
-            differs(&format!("log {i} of seed {seed}"), &log, &expected, &found);
-        }
+        *seen.entry((record.kind, answer)).or_default() += 1;
+    });
+    let end = match last {
+        log::Last::End(_) => 0,
+        log::Last::Refused(number, _) => u64::from(number),
+    };
+    *seen.entry((0, end)).or_default() += 1;
+    let back = bytes(&words(&log));
+    if !log.starts_with(&back) {
+        fail(format!("log {i} of seed {seed}: its words do not make its records again"));
     }
+    let expected = log::text(&log);
+    let found = replayed(command, &log);
+    if found.as_ref() != Ok(&expected) {
+        differs(&format!("log {i} of seed {seed}"), &log, &expected, &found);
+    }
+}
+
+/// Compares the logs on all processors, and tells which answers they had.
+fn compare(from: usize, count: usize, seed: u64, command: &[String]) {
+    let workers = std::thread::available_parallelism().map_or(1, |n| n.get());
+    let mut seen = Seen::new();
+    std::thread::scope(|scope| {
+        let share = |worker: usize| {
+            let mut seen = Seen::new();
+            for i in (from + worker..from + count).step_by(workers) {
+                compare_one(i, seed, command, &mut seen);
+            }
+            seen
+        };
+        let running: Vec<_> = (0..workers).map(|worker| scope.spawn(move || share(worker))).collect();
+        for worker in running {
+            for (pair, times) in worker.join().expect("a comparison ends") {
+                *seen.entry(pair).or_default() += times;
+            }
+        }
+    });
     for (kind, answers) in REACHABLE {
         let row: Vec<String> = answers.iter().map(|a| format!("{a}: {}", seen.get(&(*kind, *a)).unwrap_or(&0))).collect();
         println!("kind {kind}  {}", row.join("  "));

@@ -16,7 +16,8 @@ use Rattle.sender.specs.declared.Sender.{Sender}
 use Rattle.sender.specs.Record as sender
 use Rattle.receiver.specs.declared.Receiver.{Receiver}
 use Rattle.receiver.specs.Record as receiver
-use Rattle.delivery.specs.Network.{Start, Packet, Fate, Message, Silent, Goes, Acks, Nacks, message, Note, World, begin, with-sender, put, again, arrival, with-receiver, reply, Near, Readable, Run}
+use Rattle.delivery.specs.Network.{Start, Packet, Fate, Message, Silent, Goes, Acks, Nacks, message, Note, World, begin}
+use Rattle.delivery.specs.Network.{with-sender, put, again, arrival, with-receiver, reply, Near, Readable, Run}
 use Rattle.delivery.specs.Promise.{Promise}
 
 -- an event on the sender x whose rule gives o may answer a and leave y; an event on the receiver likewise
@@ -34,16 +35,26 @@ Hears x (Acks b k) y = (a : Answer) × Sends x (sack (sender.meaning x) (k .cack
 Hears x (Nacks k) y = (a : Answer) × Sends x (nack (sender.meaning x) (k .psn) (k .reason)) a y
 
 pub data Played (s : Start) : World → Sender → Receiver → Type 0 where
-  begins : (x : Sender) (r : Receiver) (a b : Answer) → Sends sender.empty (rule-sender.start (s .send-room) (psn (s .first))) a x → Receives receiver.empty (rule-receiver.start (s .receive-room) (psn (s .first))) b r
+  begins : (x : Sender) (r : Receiver) (a b : Answer)
+      → Sends sender.empty (rule-sender.start (s .send-room) (psn (s .first))) a x
+      → Receives receiver.empty (rule-receiver.start (s .receive-room) (psn (s .first))) b r
       → Played s (begin s) x r
-  sends : {w : World} {x : Sender} {r : Receiver} → Played s w x r → (z : ℕ) (a : Answer) (y : Sender) → Sends x (rule-sender.send (sender.meaning x) z) a y
+  sends : {w : World} {x : Sender} {r : Receiver} → Played s w x r → (z : ℕ) (a : Answer) (y : Sender)
+      → Sends x (rule-sender.send (sender.meaning x) z) a y
       → Played s (put (with-sender w (sender.meaning y)) (z ∷ w .sent) (λ p. record { number = length (w .sent); psn = p; size = z }) (message a)) y r
-  resends : {w : World} {x : Sender} {r : Receiver} → Played s w x r → (a : Answer) (y : Sender) → Sends x (resend (sender.meaning x)) a y
+  resends : {w : World} {x : Sender} {r : Receiver} → Played s w x r → (a : Answer) (y : Sender)
+      → Sends x (resend (sender.meaning x)) a y
       → Played s (put (with-sender w (sender.meaning y)) (w .sent) (again w) (message a)) y r
-  timers : {w : World} {x : Sender} {r : Receiver} → Played s w x r → (p : ℕ) (a : Answer) (y : Sender) → Sends x (timer (sender.meaning x) (psn p)) a y → Played s (with-sender w (sender.meaning y)) y r
-  hears : {w : World} {x : Sender} {r : Receiver} → Played s w x r → (n : Note) → List·Memᴰ n (w .notes) → Readable (w .low) n (n .reply) → (y : Sender) → Hears x (n .reply) y → Played s (with-sender w (sender.meaning y)) y r
-  arrives : {w : World} {x : Sender} {r : Receiver} → Played s w x r → (p : Packet) → List·Memᴰ p (w .wire) → Near (p .number) (w .at) → (f : Fate) (a : Answer) (q : Receiver)
-      → Receives r (rule-receiver.arrive (receiver.meaning r) (arrival p f)) a q → Played s (reply (with-receiver w (receiver.meaning q)) (p .number) (message a)) x q
+  timers : {w : World} {x : Sender} {r : Receiver} → Played s w x r → (p : ℕ) (a : Answer) (y : Sender)
+      → Sends x (timer (sender.meaning x) (psn p)) a y
+      → Played s (with-sender w (sender.meaning y)) y r
+  hears : {w : World} {x : Sender} {r : Receiver} → Played s w x r → (n : Note) → List·Memᴰ n (w .notes) → Readable (w .low) n (n .reply) → (y : Sender)
+      → Hears x (n .reply) y
+      → Played s (with-sender w (sender.meaning y)) y r
+  arrives : {w : World} {x : Sender} {r : Receiver} → Played s w x r → (p : Packet) → List·Memᴰ p (w .wire) → Near (p .number) (w .at)
+      → (f : Fate) (a : Answer) (q : Receiver)
+      → Receives r (rule-receiver.arrive (receiver.meaning r) (arrival p f)) a q
+      → Played s (reply (with-receiver w (receiver.meaning q)) (p .number) (message a)) x q
 
 -- the world of such a play is one of demand 3's, and has what the two records mean: so the promise is kept by the card's own records
 pub record Kept (s : Start) (w : World) (x : Sender) (r : Receiver) : Type 0 where

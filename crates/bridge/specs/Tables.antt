@@ -22,7 +22,8 @@ use Rattle.connection.specs.Record.{empty}
 use Rattle.sender.specs.Record as sender
 use Rattle.receiver.specs.Record as receiver
 use Rattle.table.specs.Slots.{AllSound, meaning}
-use Rattle.delivery.specs.Network.{Start, Packet, Fate, Message, Silent, Goes, Acks, Nacks, message, Note, World, begin, with-sender, put, again, arrival, with-receiver, reply, Near, Readable, Run}
+use Rattle.delivery.specs.Network.{Start, Packet, Fate, Message, Silent, Goes, Acks, Nacks, message, Note, World, begin}
+use Rattle.delivery.specs.Network.{with-sender, put, again, arrival, with-receiver, reply, Near, Readable, Run}
 use Rattle.delivery.specs.Promise.{Promise}
 
 -- an event on a slot of the table t may answer a and leave the table u
@@ -56,19 +57,36 @@ HeardIn t i (Nacks k) u = (a : Answer) × On t i (event.Nack (k .psn) (k .reason
 
 pub data Tabled (s : Start) (i j : ℕ) : World → List Connection → List Connection → Type 0 where
   -- the slots are started: the other side of each connection as it may be
-  begins : (t u t′ u′ : List Connection) (m n : ℕ) (p q : Psn) → AllSound t → AllSound u → On t i (event.Start (s .send-room) (psn (s .first)) m p) answer.Started t′
-      → On u j (event.Start n q (s .receive-room) (psn (s .first))) answer.Started u′ → Tabled s i j (begin s) t′ u′
-  sends : {w : World} {t u : List Connection} → Tabled s i j w t u → (z : ℕ) (a : Answer) (t′ : List Connection) → On t i (event.Send z) a t′
+  begins : (t u t′ u′ : List Connection) (m n : ℕ) (p q : Psn) → AllSound t → AllSound u
+      → On t i (event.Start (s .send-room) (psn (s .first)) m p) answer.Started t′
+      → On u j (event.Start n q (s .receive-room) (psn (s .first))) answer.Started u′
+      → Tabled s i j (begin s) t′ u′
+  sends : {w : World} {t u : List Connection} → Tabled s i j w t u → (z : ℕ) (a : Answer) (t′ : List Connection)
+      → On t i (event.Send z) a t′
       → Tabled s i j (put (with-sender w (sending-in t′ i)) (z ∷ w .sent) (λ p. record { number = length (w .sent); psn = p; size = z }) (message a)) t′ u
-  resends : {w : World} {t u : List Connection} → Tabled s i j w t u → (a : Answer) (t′ : List Connection) → On t i event.Resend a t′ → Tabled s i j (put (with-sender w (sending-in t′ i)) (w .sent) (again w) (message a)) t′ u
-  timers : {w : World} {t u : List Connection} → Tabled s i j w t u → (p : ℕ) (a : Answer) (t′ : List Connection) → On t i (event.Timer (psn p)) a t′ → Tabled s i j (with-sender w (sending-in t′ i)) t′ u
-  hears : {w : World} {t u : List Connection} → Tabled s i j w t u → (n : Note) → List·Memᴰ n (w .notes) → Readable (w .low) n (n .reply) → (t′ : List Connection) → HeardIn t i (n .reply) t′
+  resends : {w : World} {t u : List Connection} → Tabled s i j w t u → (a : Answer) (t′ : List Connection)
+      → On t i event.Resend a t′
+      → Tabled s i j (put (with-sender w (sending-in t′ i)) (w .sent) (again w) (message a)) t′ u
+  timers : {w : World} {t u : List Connection} → Tabled s i j w t u → (p : ℕ) (a : Answer) (t′ : List Connection)
+      → On t i (event.Timer (psn p)) a t′
       → Tabled s i j (with-sender w (sending-in t′ i)) t′ u
-  arrives : {w : World} {t u : List Connection} → Tabled s i j w t u → (p : Packet) → List·Memᴰ p (w .wire) → Near (p .number) (w .at) → (f : Fate) (a : Answer) (u′ : List Connection)
-      → On u j (event.Arrive (arrival p f)) a u′ → Tabled s i j (reply (with-receiver w (receiving-in u′ j)) (p .number) (message a)) t u′
+  hears : {w : World} {t u : List Connection} → Tabled s i j w t u → (n : Note) → List·Memᴰ n (w .notes) → Readable (w .low) n (n .reply)
+      → (t′ : List Connection)
+      → HeardIn t i (n .reply) t′
+      → Tabled s i j (with-sender w (sending-in t′ i)) t′ u
+  arrives : {w : World} {t u : List Connection} → Tabled s i j w t u → (p : Packet) → List·Memᴰ p (w .wire) → Near (p .number) (w .at)
+      → (f : Fate) (a : Answer) (u′ : List Connection)
+      → On u j (event.Arrive (arrival p f)) a u′
+      → Tabled s i j (reply (with-receiver w (receiving-in u′ j)) (p .number) (message a)) t u′
   -- anything else in the tables
-  beside-sender : {w : World} {t u : List Connection} → Tabled s i j w t u → (slot : ℕ) (e : Event) (a : Answer) (t′ : List Connection) → (slot ≢ i) ⊎ Receiving e → On t slot e a t′ → Tabled s i j w t′ u
-  beside-receiver : {w : World} {t u : List Connection} → Tabled s i j w t u → (slot : ℕ) (e : Event) (a : Answer) (u′ : List Connection) → (slot ≢ j) ⊎ Sending e → On u slot e a u′ → Tabled s i j w t u′
+  beside-sender : {w : World} {t u : List Connection} → Tabled s i j w t u → (slot : ℕ) (e : Event) (a : Answer) (t′ : List Connection)
+      → (slot ≢ i) ⊎ Receiving e
+      → On t slot e a t′
+      → Tabled s i j w t′ u
+  beside-receiver : {w : World} {t u : List Connection} → Tabled s i j w t u → (slot : ℕ) (e : Event) (a : Answer) (u′ : List Connection)
+      → (slot ≢ j) ⊎ Sending e
+      → On u slot e a u′
+      → Tabled s i j w t u′
 
 pub record KeptIn (s : Start) (i j : ℕ) (w : World) (t u : List Connection) : Type 0 where
   pub run : Run (begin s) w

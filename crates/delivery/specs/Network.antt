@@ -93,17 +93,44 @@ pub record World : Type 0 where
   pub accepted : List ℕ
 
 unfoldable pub begin : Start → World
-begin s = record { sending = sender.fresh (s .send-room) (s .first); receiving = receiver.fresh (s .receive-room) (s .first); low = 0; at = 0; sent = []; wire = []; notes = []; accepted = [] }
+begin s = record {
+  sending = sender.fresh (s .send-room) (s .first);
+  receiving = receiver.fresh (s .receive-room) (s .first);
+  low = 0;
+  at = 0;
+  sent = [];
+  wire = [];
+  notes = [];
+  accepted = [];
+}
 
 -- ---- what the sender does
 -- its next record: the number of place + 1 grows as far as the place moves
 unfoldable pub with-sender : World → Sender → World
-with-sender w x = record { sending = x; receiving = w .receiving; low = w .low + distance (w .sending .place) (x .place); at = w .at; sent = w .sent; wire = w .wire; notes = w .notes; accepted = w .accepted }
+with-sender w x = record {
+  sending = x;
+  receiving = w .receiving;
+  low = w .low + distance (w .sending .place) (x .place);
+  at = w .at;
+  sent = w .sent;
+  wire = w .wire;
+  notes = w .notes;
+  accepted = w .accepted;
+}
 
 -- a packet that goes out is put on the wire, and the sizes sent are noted
 unfoldable pub put : World → List ℕ → (ℕ → Packet) → Message → World
 put w sizes packet Silent = w
-put w sizes packet (Goes p) = record { sending = w .sending; receiving = w .receiving; low = w .low; at = w .at; sent = sizes; wire = packet p ∷ w .wire; notes = w .notes; accepted = w .accepted }
+put w sizes packet (Goes p) = record {
+  sending = w .sending;
+  receiving = w .receiving;
+  low = w .low;
+  at = w .at;
+  sent = sizes;
+  wire = packet p ∷ w .wire;
+  notes = w .notes;
+  accepted = w .accepted;
+}
 put w sizes packet (Acks b k) = w
 put w sizes packet (Nacks k) = w
 
@@ -118,10 +145,14 @@ sizeOf [] i = 0
 sizeOf (z ∷ l) i = cond (eqb (length l) i) z (sizeOf l i)
 
 unfoldable pub again : World → ℕ → Packet
-again w p = let i = w .low + distance (nth (w .sending) 0) p in record { number = i; psn = p; size = sizeOf (w .sent) i }
+again w p =
+    let i = w .low + distance (nth (w .sending) 0) p in
+    record { number = i; psn = p; size = sizeOf (w .sent) i }
 
 unfoldable pub on-resend : World → World
-on-resend w = let o = resend (w .sending) in put (with-sender w (left (w .sending) o)) (w .sent) (again w) (message (answered o))
+on-resend w =
+    let o = resend (w .sending) in
+    put (with-sender w (left (w .sending) o)) (w .sent) (again w) (message (answered o))
 
 unfoldable pub on-timer : World → ℕ → World
 on-timer w p = with-sender w (left (w .sending) (timer (w .sending) (psn p)))
@@ -137,13 +168,36 @@ on-hear w n = with-sender w (heard (w .sending) (n .reply))
 
 -- ---- what the receiver does
 unfoldable pub arrival : Packet → Fate → Arrival
-arrival p f = record { psn = psn (p .psn); size = cond (trimmed (f .flags) || trimmed-last-hop (f .flags)) (f .cut) (p .size); flags = f .flags; entropy = f .entropy }
+arrival p f = record {
+  psn = psn (p .psn);
+  size = cond (trimmed (f .flags) || trimmed-last-hop (f .flags)) (f .cut) (p .size);
+  flags = f .flags;
+  entropy = f .entropy;
+}
 
 unfoldable pub with-receiver : World → Receiver → World
-with-receiver w r = record { sending = w .sending; receiving = r; low = w .low; at = w .at + distance (w .receiving .expected) (r .expected); sent = w .sent; wire = w .wire; notes = w .notes; accepted = w .accepted }
+with-receiver w r = record {
+  sending = w .sending;
+  receiving = r;
+  low = w .low;
+  at = w .at + distance (w .receiving .expected) (r .expected);
+  sent = w .sent;
+  wire = w .wire;
+  notes = w .notes;
+  accepted = w .accepted;
+}
 
 unfoldable pub noted : World → List ℕ → ℕ → Message → World
-noted w l i m = record { sending = w .sending; receiving = w .receiving; low = w .low; at = w .at; sent = w .sent; wire = w .wire; notes = record { reply = m; here = w .at; about = i } ∷ w .notes; accepted = l }
+noted w l i m = record {
+  sending = w .sending;
+  receiving = w .receiving;
+  low = w .low;
+  at = w .at;
+  sent = w .sent;
+  wire = w .wire;
+  notes = record { reply = m; here = w .at; about = i } ∷ w .notes;
+  accepted = l;
+}
 
 unfoldable pub reply : World → ℕ → Message → World
 reply w i Silent = w
@@ -152,7 +206,9 @@ reply w i (Acks b k) = noted w (cond b (i ∷ w .accepted) (w .accepted)) i (Ack
 reply w i (Nacks k) = noted w (w .accepted) i (Nacks k)
 
 unfoldable pub on-arrive : World → Packet → Fate → World
-on-arrive w p f = let o = arrive (w .receiving) (arrival p f) in reply (with-receiver w (left (w .receiving) o)) (p .number) (message (answered o))
+on-arrive w p f =
+    let o = arrive (w .receiving) (arrival p f) in
+    reply (with-receiver w (left (w .receiving) o)) (p .number) (message (answered o))
 
 -- ---- "Whenever a message is read, every packet number it names lies fewer than 8,388,608 from the reader's place"
 abbrev pub Near : ℕ → ℕ → Type 0
@@ -167,7 +223,8 @@ base-number here k = here + distance (after (k .cack .0) 1) (k .block .base .0)
 unfoldable pub Readable : ℕ → Note → Message → Type 0
 Readable low n Silent = Unit {0}
 Readable low n (Goes p) = Unit {0}
-Readable low n (Acks b k) = Near (n .here) low × ((j : ℕ) → j < 64 → bitAt (k .block .bitmap) j ≡ true → Near (base-number (n .here) k + j + 1) low)
+Readable low n (Acks b k) =
+    Near (n .here) low × ((j : ℕ) → j < 64 → bitAt (k .block .bitmap) j ≡ true → Near (base-number (n .here) k + j + 1) low)
 Readable low n (Nacks k) = Near (n .about + 1) low
 
 -- what can happen from a world v on, "whatever the order", any number of times. Loss is never being read.

@@ -32,7 +32,9 @@ plain p z = record { psn = psn p; size = z; flags = 0; entropy = 0 }
 -- the receiver after those of the packets sent that are in A came "once each in ascending order"
 unfoldable pub ascending : Start → (ℕ → Bool) → List ℕ → Receiver
 ascending s A [] = receiver.fresh (s .receive-room) (s .first)
-ascending s A (z ∷ l) = let r = ascending s A l in cond (A (length l)) (left r (arrive r (plain (after (s .first) (length l)) z))) r
+ascending s A (z ∷ l) =
+    let r = ascending s A l in
+    cond (A (length l)) (left r (arrive r (plain (after (s .first) (length l)) z))) r
 
 -- "a run of the same packets, one at a time and without loss": a packet is sent, arrives, and its reply is heard
 unfoldable pub lossless : Start → List ℕ → Sender × Receiver
@@ -59,7 +61,8 @@ pub record Promise (s : Start) (w : World) : Type 0 where
   -- "the receiver's record is the one left by its accepted packets coming once each in ascending order"
   pub in-order : w .receiving ≡ ascending s (among (w .accepted)) (w .sent)
   -- "Once the sender has nothing unretired, both records equal those of a run of the same packets, one at a time and without loss"
-  pub in-the-end : ((k : ℕ) → k < outstanding (w .sending) → retired-at (w .sending) k ≡ true) → (w .sending ≡ lossless s (w .sent) .0) × (w .receiving ≡ lossless s (w .sent) .1)
+  pub in-the-end : ((k : ℕ) → k < outstanding (w .sending) → retired-at (w .sending) k ≡ true)
+      → (w .sending ≡ lossless s (w .sent) .0) × (w .receiving ≡ lossless s (w .sent) .1)
 
 -- demand 3
 abbrev pub Demand3 : Type 0

@@ -18,7 +18,7 @@ use rules::Read;
 use rules::Written;
 
 // The most fields that a kind has.
-pub const FIELDS: usize = 4;
+const FIELDS: usize = 4;
 
 // How wide a packet number is, in bytes; no other field is.
 const PSN_WIDTH: usize = 3;
@@ -47,7 +47,7 @@ fn whole(kind: u8) -> usize
 }
 
 // An event's kind.
-pub fn kind(event: Event) -> u8
+fn kind(event: Event) -> u8
     ensures { λ r. ⌜ r ≡ kindOf event ⌝ }
 {
     match event {
@@ -68,7 +68,7 @@ pub fn kind(event: Event) -> u8
 }
 
 // An event's fields in their order, 0 for one that its kind does not have.
-pub fn values(event: Event) -> [u64; FIELDS]
+fn values(event: Event) -> [u64; FIELDS]
     ensures { λ r. ⌜ r ≡ padded (fieldsOf event) ⌝ }
 {
     match event {

@@ -88,7 +88,8 @@ receiving = record {
 -- "four sends of 100", S1 to S5, and then a SACK whose cack is behind the place: "its set bits still count"
 abbrev pub sending : Case
 sending = record {
-  asked = Events (Send 100 ∷ Send 100 ∷ Send 100 ∷ Send 100 ∷ sacks 13 14 1 ∷ sacks 9 10 10 ∷ sacks 9 10 10 ∷ nacks 12 1 ∷ Resend ∷ Resend ∷ sacks 11 12 0 ∷ sacks 9 12 1 ∷ []);
+  asked = Events (Send 100 ∷ Send 100 ∷ Send 100 ∷ Send 100 ∷ sacks 13 14 1 ∷ sacks 9 10 10 ∷ sacks 9 10 10
+      ∷ nacks 12 1 ∷ Resend ∷ Resend ∷ sacks 11 12 0 ∷ sacks 9 12 1 ∷ []);
   expected = done 3 (10 ∷ []) []
       ∷ done 3 (11 ∷ []) []
       ∷ done 3 (12 ∷ []) []

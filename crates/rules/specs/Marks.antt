@@ -28,12 +28,20 @@ mark tell x p =
 
 -- refusals 2, 5, 8
 unfoldable pub timer : Sender → Psn → Outcome Sender
-timer x p = refuse (unused x) 2 (refuse (not (psn-ok p)) 5 (refuse (unsent x (p .0)) 8 (mark answer.Expired x (p .0))))
+timer x p =
+    refuse (unused x) 2
+    (refuse (not (psn-ok p)) 5
+    (refuse (unsent x (p .0)) 8
+    (mark answer.Expired x (p .0))))
 
 -- refusals 2, 5, 15, 8. "Reason 5 PSNE and 6 GERR answer 0 and mark nothing"
 unfoldable pub nack : Sender → Psn → ℕ → Outcome Sender
 nack x p reason =
-    refuse (unused x) 2 (refuse (not (psn-ok p)) 5 (refuse (not (reason-ok reason)) 15 (refuse (unsent x (p .0)) 8 (cond (leb reason 4) (mark answer.Marked x (p .0)) (Done x (answer.Marked 0))))))
+    refuse (unused x) 2
+    (refuse (not (psn-ok p)) 5
+    (refuse (not (reason-ok reason)) 15
+    (refuse (unsent x (p .0)) 8
+    (cond (leb reason 4) (mark answer.Marked x (p .0)) (Done x (answer.Marked 0))))))
 
 -- ---- "Resend: hands out the marked PSN nearest after the place and clears its mark"
 abbrev pub unmarked : Entry → Bool
@@ -46,4 +54,6 @@ nearest x = lead (map unmarked (x .entries))
 -- refusals 2, 9
 unfoldable pub resend : Sender → Outcome Sender
 resend x =
-    refuse (unused x) 2 (refuse (leb (outstanding x) (nearest x)) 9 (Done (with-entries x (update (with-mark false) (x .entries) (nearest x))) (answer.Resent (psn (nth x (nearest x))))))
+    refuse (unused x) 2
+    (refuse (leb (outstanding x) (nearest x)) 9
+    (Done (with-entries x (update (with-mark false) (x .entries) (nearest x))) (answer.Resent (psn (nth x (nearest x))))))

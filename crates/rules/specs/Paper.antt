@@ -49,7 +49,9 @@ paper answer.Started = done 1 [] []
 paper answer.Closed = done 2 [] []
 paper (answer.Sent p) = done 3 (p .0 ∷ []) []
 paper (answer.Acked v k) =
-    done 4 (code v ∷ k .cack .0 ∷ k .block .base .0 ∷ k .block .bitmap ∷ k .count ∷ k .entropy ∷ digit (k .rtx) ∷ digit (k .mark) ∷ []) (k .mpr ∷ [])
+    done 4
+    (code v ∷ k .cack .0 ∷ k .block .base .0 ∷ k .block .bitmap ∷ k .count ∷ k .entropy ∷ digit (k .rtx) ∷ digit (k .mark) ∷ [])
+    (k .mpr ∷ [])
 paper (answer.Nacked v k) = done 4 (code v ∷ k .psn .0 ∷ k .entropy ∷ digit (k .rtx) ∷ []) (k .reason ∷ [])
 paper (answer.Retired n place held) = done 5 (n ∷ place .0 ∷ held ∷ []) []
 paper (answer.Marked n) = done 6 (n ∷ []) []

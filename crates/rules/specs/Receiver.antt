@@ -121,4 +121,8 @@ judged r a TrimLastHop = Done r (answer.Nacked TrimLastHop (nackOf TrimLastHop a
 -- refusals 2, 5, 6, 14
 unfoldable pub arrive : Receiver → Arrival → Outcome Receiver
 arrive r a =
-    refuse (unused r) 2 (refuse (not (psn-ok (a .psn))) 5 (refuse (not (size-ok (a .size))) 6 (refuse (not (flags-ok (a .flags))) 14 (judged r a (verdict r a)))))
+    refuse (unused r) 2
+    (refuse (not (psn-ok (a .psn))) 5
+    (refuse (not (size-ok (a .size))) 6
+    (refuse (not (flags-ok (a .flags))) 14
+    (judged r a (verdict r a)))))

@@ -72,4 +72,7 @@ report x cack b =
 -- refusals 2, 5, 8, all before anything is retired
 unfoldable pub sack : Sender → Psn → Block → Outcome Sender
 sack x cack b =
-    refuse (unused x) 2 (refuse (not (psn-ok cack && psn-ok (b .base))) 5 (refuse (names-unsent x (cack .0) b) 8 (Done (after-sack x (cack .0) b) (report x (cack .0) b))))
+    refuse (unused x) 2
+    (refuse (not (psn-ok cack && psn-ok (b .base))) 5
+    (refuse (names-unsent x (cack .0) b) 8
+    (Done (after-sack x (cack .0) b) (report x (cack .0) b))))

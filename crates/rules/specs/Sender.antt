@@ -63,7 +63,10 @@ new size = record { size = size; retired = false; marked = false }
 
 unfoldable pub send : Sender → ℕ → Outcome Sender
 send x size =
-    refuse (unused x) 2 (refuse (not (size-ok size)) 6 (refuse (leb (x .room) (outstanding x)) 7 (Done (with-entries x (x .entries ++ (new size ∷ []))) (answer.Sent (psn (next x))))))
+    refuse (unused x) 2
+    (refuse (not (size-ok size)) 6
+    (refuse (leb (x .room) (outstanding x)) 7
+    (Done (with-entries x (x .entries ++ (new size ∷ []))) (answer.Sent (psn (next x))))))
 
 -- ---- which PSNs are unsent
 -- from place + 1 to a PSN

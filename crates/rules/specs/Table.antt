@@ -31,7 +31,9 @@ is-start event.Resend = false
 -- "An event names a slot, and only that slot's record may change". "Order: 1, 2 or 3, 4, ..": 3 is "start of a slot in use"
 unfoldable pub on : List Connection → ℕ → Event → Outcome (List Connection)
 on t slot e =
-    refuse (outside t slot) 1 (refuse (is-start e && not (unused (at t slot))) 3 (within (set t slot) (step (at t slot) e)))
+    refuse (outside t slot) 1
+    (refuse (is-start e && not (unused (at t slot))) 3
+    (within (set t slot) (step (at t slot) e)))
 
 -- "a call of its own first empties every slot lent"
 unfoldable pub emptied : List Connection → List Connection

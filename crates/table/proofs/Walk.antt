@@ -4,7 +4,11 @@
 --     free-full    a local that holds a value is freed
 --     while-test   the test of a `while`: a premise for the rest of the turn, and one for what stands after the loop
 --     envOf        a function's locals at the blocks ls, as the goal of a walk has them
-use Prim.Native.Nat.{ℕ, zero}
+--     bytes        how many bytes a connection takes in memory, whatever its rooms
+--     in-bytes     an element's offset in bytes fits a usize, as those of all n elements do
+use Prim.Native.Nat.{ℕ, zero, _*_, _^_, _<_}
+use native.Mathlib.Nat.{le-of-lt, mul-le-mul-right}
+use native.Mathlib.Omega.{arith}
 use mathlib.Core.Bool.{Bool, not}
 use mathlib.Core.Path.{refl}
 use mathlib.Core.List.{List, [], _∷_}
@@ -19,6 +23,14 @@ use prog.Wp.{Heap, Env, Calls, Loops, Wp, afterSeq, exits}
 use ghost.Atoms.{Atoms}
 use types.Kit.{Given, Item, ‵, Post, anyQ, post, Goal, prop, runs, frees, Seq, Step, step, _$_}
 use types.Run.{Opd, first, branches, skips, jumps, forget, free1}
+use denote.Memory.{mem}
+use Rattle.connection.proofs.Connection as C₀
+
+abbrev pub bytes : ℕ
+bytes = mem C₀.the-row .size
+
+pub in-bytes : (i n : ℕ) → i < n → n * bytes < 2 ^ 63 → i * bytes < 2 ^ 64
+in-bytes i n l room = omega (arith, mul-le-mul-right bytes (le-of-lt l))
 
 abbrev pub envOf : List Local → List ℕ → List (Ty × ℕ)
 envOf [] ls = []

@@ -51,7 +51,7 @@ use Rattle.connection.proofs.Connection.empty.Symbol as empty-def
 use Rattle.connection.proofs.Connection.empty.Symbol.{name as #empty}
 use Rattle.connection.proofs.Connection.empty.Met as empty-thm
 use Rattle.table.proofs.Filling.{fill, length-fill, fill-more, fill-all}
-use Rattle.table.proofs.Walk.{big-lit, while-test, free-full, envOf}
+use Rattle.table.proofs.Walk.{big-lit, while-test, free-full, envOf, bytes, in-bytes}
 use Rattle.table.proofs.empty_all.Key.{name as #empty-all}
 use Rattle.table.proofs.empty_all as all′
 use Rattle.table.proofs.empty_all.Statement as stated
@@ -76,9 +76,6 @@ Less n s t = n - s .0 < n - t .0
 
 less-wf : (n : ℕ) → WellFounded (Less n)
 less-wf n = InvImage·wf (λ (t : Turns n). n - t .0) (Nat·lt-wfRel .wf)
-
-in-bytes : (i n : ℕ) → i < n → n * 1272 < 2 ^ 63 → i * 1272 < 2 ^ 64
-in-bytes i n l room = omega arith
 
 next-fits : (i n : ℕ) → i < n → n < 2 ^ 64 → i + 1 < 2 ^ 64
 next-fits i n l room = omega arith
@@ -161,7 +158,7 @@ module _ {M : Type 1} (𝓤 : URA M) (H : Heap 𝓤) (A : Atoms 𝓤) (W : Given
         (λ yes. let within : i < n = ltb→lt i n yes in let here : i < length (fill d i ys) = subst (λ (m : ℕ). i < m) (sym (length-fill d i ys)) within in
         assigns ! (bin ! (load ! (from ! (stop !)) (look ! 10 refl)) (big-lit ! (record { fits = lit< tt })) (record { fits = in-bytes i n within (room .1) })) (from ! (stop !)) (store ! 8 refl (tt, record { fits = in-bytes i n within (room .1) })) $
         assigns ! (bin ! (load ! (from ! (fld ! refl (stop !))) (look-in ! 14 (sub ! 0 refl (whole !)))) (load ! (from ! (stop !)) (look ! 8 refl)) tt) (from ! (stop !)) (init ! 4 refl (tt, tt)) $
-        rewrite ! 4 (λ (p : ℕ). ‵ (fat fullShare tyPtr l₆ 0 (vptr b p))) (sym (place-is 1272 o i)) refl $
+        rewrite ! 4 (λ (p : ℕ). ‵ (fat fullShare tyPtr l₆ 0 (vptr b p))) (sym (place-is bytes o i)) refl $
         elem-out ! R (Is R) (shows 𝓤 H A R) (LL.vals C₀.the-type C′.the-laws) (LL.tells C₀.the-type C′.the-laws) fullShare (fill d i ys) i d b o here (λ was.
         -- [the element's cell; what it owns; the others; the open borrow; obs; auth; _6; …]: local j stands at 18 - 2 j
         assigns ! (of-opd ! (load ! (from ! (stop !)) (look ! 14 refl))) (from ! (hop ! (look ! 6 refl) (stop !))) (store-raw ! 0 refl (LL.lawful C₀.the-type C′.the-laws 𝓤 H A W .typed d _ is-d .0)) $

@@ -61,7 +61,7 @@ use Rattle.connection.proofs.Stepped as S₀
 use Rattle.connection.proofs.Stepped.Laws as S′
 use Rattle.table.specs.Slots.{AllSound, inSlot, meaning}
 use Rattle.table.proofs.Slots.{past-sixteen, past-end, stored}
-use Rattle.table.proofs.Walk.{big-lit, turns-back, free-full}
+use Rattle.table.proofs.Walk.{big-lit, turns-back, free-full, bytes, in-bytes}
 use Rattle.table.proofs.in_slot as step′
 use Rattle.table.proofs.in_slot.Symbol as step-def
 use Rattle.table.proofs.in_slot.Symbol.{name as #in-slot}
@@ -96,9 +96,6 @@ Said ys n e r zs = promise.Meets AllSound meaning ys (on (meaning ys) n e) r zs
 
 abbrev Stepping : Connection → Event → Stepped → Type 0
 Stepping c e r = promise.Meets Sound connection.meaning c (inSlot (connection.meaning c) e) (r .answer) (r .«record»)
-
-in-bytes : (n : ℕ) → n < 16 → n * 1272 < 2 ^ 64
-in-bytes n small = omega arith
 
 -- the contract of `in_slot`
 abbrev Step : {M : Type 1} (𝓤 : URA M) (H : Heap 𝓤) (A : Atoms 𝓤) (mem : Memory → SProp 𝓤) (run : Routine → Fun 𝓤) → Contract 𝓤
@@ -184,11 +181,11 @@ module _ {M : Type 1} (𝓤 : URA M) (H : Heap 𝓤) (A : Atoms 𝓤) (W : Given
         free-full ! $ move ! (6 ∷ 7 ∷ []) $ free-full ! $ move ! (4 ∷ 5 ∷ []) $ free1 ! $ move ! (2 ∷ 3 ∷ []) $ free1 ! $ move ! (0 ∷ 1 ∷ []) $ free1 ! $ free0 ! $
         by ! (refuses (past-end ys n e all (leb→le (length ys) n far))))
         (λ not-far. let small : n < 16 = nleb→lt 16 n not-big in let within : n < length ys = nleb→lt (length ys) n not-far in
-        let at-fits : n * 1272 < 2 ^ 64 = in-bytes n small in
+        let at-fits : n * bytes < 2 ^ 64 = in-bytes n (length ys) within (room .1) in
         -- the element's place, and the element
         assigns ! (bin ! (load ! (from ! (stop !)) (look ! 14 refl)) (big-lit ! (record { fits = lit< tt })) (record { fits = at-fits })) (from ! (stop !)) (store ! 6 refl (tt, record { fits = at-fits })) $
         assigns ! (bin ! (load ! (from ! (fld ! refl (stop !))) (look-in ! 16 (sub ! 0 refl (whole !)))) (load ! (from ! (stop !)) (look ! 6 refl)) tt) (from ! (stop !)) (init ! 4 refl (tt, tt)) $
-        rewrite ! 4 (λ (p : ℕ). ‵ (fat fullShare tyPtr l₇ 0 (vptr b p))) (sym (place-is 1272 o n)) refl $
+        rewrite ! 4 (λ (p : ℕ). ‵ (fat fullShare tyPtr l₇ 0 (vptr b p))) (sym (place-is bytes o n)) refl $
         move ! (21 ∷ []) $ fsplit ! $ fsplit ! $ move ! (1 ∷ []) $ fsplit ! $ move ! (24 ∷ []) $ split ! $ move ! (2 ∷ 3 ∷ 0 ∷ []) $
         opens-slice ! tt R ys b o $ elem-out ! R (Is R) (shows 𝓤 H A R) (LL.vals C₀.the-type C′.the-laws) (LL.tells C₀.the-type C′.the-laws) fullShare ys n empty b o within (λ was.
         -- [the element's cell; what it owns; the others; the open borrow; obs; auth; true; the slice's fact; what slot and e own; _9; …; room for _0; …]: local i stands at 27 - 2 i
@@ -205,7 +202,7 @@ module _ {M : Type 1} (𝓤 : URA M) (H : Heap 𝓤) (A : Atoms 𝓤) (W : Given
         let parts = LL.owed S₀.the-type S′.the-laws r (v ∷ []) is-r in
         assigns ! (bin ! (load ! (from ! (stop !)) (look ! 23 refl)) (big-lit ! (record { fits = lit< tt })) (record { fits = at-fits })) (from ! (stop !)) (store ! 15 refl (tt, record { fits = at-fits })) $
         assigns ! (bin ! (load ! (from ! (fld ! refl (stop !))) (look-in ! 25 (sub ! 0 refl (whole !)))) (load ! (from ! (stop !)) (look ! 15 refl)) tt) (from ! (stop !)) (init ! 9 refl (tt, tt)) $
-        rewrite ! 9 (λ (p : ℕ). ‵ (fat fullShare tyPtr l₉ 0 (vptr b p))) (sym (place-is 1272 o n)) refl $
+        rewrite ! 9 (λ (p : ℕ). ‵ (fat fullShare tyPtr l₉ 0 (vptr b p))) (sym (place-is bytes o n)) refl $
         assigns ! (of-opd ! (load ! (from ! (fld ! refl (stop !))) (look-in ! 19 (sub ! 1 refl (whole !))))) (from ! (hop ! (look ! 9 refl) (stop !))) (store-raw ! 0 refl (LL.lawful C₀.the-type C′.the-laws 𝓤 H A W .typed (r .«record») _ (parts .1 .0) .0)) $
         assigns ! (of-opd ! (load ! (from ! (fld ! refl (stop !))) (look-in ! 19 (sub ! 0 refl (whole !))))) (from ! (stop !)) (init ! 27 refl (EL.lawful A₀.the-type A′.the-laws 𝓤 H A W tt .typed (r .answer) _ (parts .0) .0)) $
         move ! (1 ∷ []) $ drop ! $ owned ! R (Is R) (LL.makes C₀.the-type C′.the-plain 𝓤 H A) (r .«record») _ (parts .1 .0) $ move ! (1 ∷ 0 ∷ []) $
