@@ -1,7 +1,6 @@
 -- A turn does what is read at the place: a record takes the place on by 4 bytes or more, so the count stays behind it. Assumes nothing.
 use mathlib.Core.Path.{_≡_, sym, _∙_, subst}
 use mathlib.Core.List.{List}
-use mathlib.Core.Logic.{inl}
 use Prim.Native.Nat.{ℕ, _+_, _≤_}
 use native.Mathlib.Omega.{arith}
 use lib.ListN.{length}
@@ -12,9 +11,8 @@ use Rattle.rules.specs.declared.Event.{Event}
 use Rattle.rules.specs.declared.Read.{Read}
 use Rattle.rules.specs.declared.Read.the-variants.{Record, Nothing}
 use Rattle.rules.proofs.Apart.{reads-apart}
-use Rattle.rules.proofs.Lists.{getD-alike}
 use Rattle.rules.proofs.RoundTrip.{read-kind}
-use Rattle.connection.specs.Record.{empty}
+use Rattle.table.proofs.Slots.{empty-sound}
 use Rattle.player.specs.declared.State.{State}
 use Rattle.player.specs.declared.Turn.{Turn}
 use Rattle.player.specs.Play.{begin, Sound, GoesOn, Stops, By, Turned}
@@ -48,4 +46,4 @@ turned-off log x r n s h e = record { by-rule = subst (By x r) (sym h) e; sound 
 
 -- an empty table is where a replay begins
 pub begin-sound : Sound begin
-begin-sound = record { slots-sound = λ slot. inl (getD-alike empty slots slot); count-low = omega arith }
+begin-sound = record { slots-sound = empty-sound slots; count-low = omega arith }

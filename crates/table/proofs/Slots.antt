@@ -1,21 +1,24 @@
--- A slot that is outside is refused and leaves the table, and what is stored to one that is not is what the table's rule stores. Assumes nothing.
+-- A slot that is outside is refused and leaves the table, and what is stored to one that is not is what the table's rule stores; a table
+-- that is emptied is what the rules empty it to. Assumes nothing.
 use mathlib.Core.Path.{_≡_, refl, sym, ap, _∙_}
 use mathlib.Core.Bool.{true, not, _&&_, or-true}
-use mathlib.Core.List.{List, map}
-use Prim.Native.Nat.{ℕ, _≤_, _<_}
+use mathlib.Core.List.{List, map, _∷_}
+use mathlib.Core.Logic.{inl}
+use Prim.Native.Nat.{ℕ, zero, suc, _≤_, _<_}
 use lib.Dec.{leb}
-use lib.ListN.{length, getD, set, length-map, List·getD-map}
+use lib.ListN.{length, getD, set, replicate, length-map, List·getD-map}
 use lib.Seq.{getD-set-same, set-getD}
 use borrow.Author.Tests.{le-leb, lt-leb}
 use Rattle.rules.specs.Numbers.{slots}
 use Rattle.rules.specs.Outcome.{Refused, refuse, within}
 use Rattle.rules.specs.Promise.{Meets}
 use Rattle.rules.specs.Connection.{unused, step}
-use Rattle.rules.specs.Table.{at, is-start, outside, on}
+use Rattle.rules.specs.Connection as rule
+use Rattle.rules.specs.Table.{at, is-start, outside, on, emptied}
 use Rattle.rules.specs.declared.Event.{Event}
 use Rattle.rules.specs.declared.Answer.{Answer}
 use Rattle.rules.specs.declared.Answer.the-variants as answer
-use Rattle.rules.proofs.Lists.{map-set, all-set}
+use Rattle.rules.proofs.Lists.{map-set, all-set, getD-alike}
 use Rattle.rules.proofs.Outcomes.{refuse-within}
 use Rattle.rules.proofs.Meeting.{refuses, part}
 use Rattle.connection.specs.declared.Connection.{Connection}
@@ -44,11 +47,13 @@ module _ (t : List Connection) (slot : ℕ) (e : Event) where
   unfolding on refuse
   on-outside o = rw o
 
-  on-inside : slot < slots → slot < length t → on (meaning t) slot e ≡ within (set (meaning t) slot) (inSlot (connection.meaning (getD t slot empty)) e)
+  on-inside : slot < slots → slot < length t
+      → on (meaning t) slot e ≡ within (set (meaning t) slot) (inSlot (connection.meaning (getD t slot empty)) e)
   unfolding on outside inSlot refuse
   on-inside small short =
+      let c = connection.meaning (getD t slot empty) in
       rw (lt-leb slots slot small, long t, lt-leb (length t) slot short, at-means t slot)
-      (refuse-within (set (meaning t) slot) (is-start e && not (unused (connection.meaning (getD t slot empty)))) 3 (step (connection.meaning (getD t slot empty)) e))
+      (refuse-within (set (meaning t) slot) (is-start e && not (unused c)) 3 (step c e))
 
   -- ---- the promise of an event on the table
   module _ (all : AllSound t) where
@@ -63,10 +68,24 @@ module _ (t : List Connection) (slot : ℕ) (e : Event) where
     unfolding outside
     past-end far = outside-refuses (rw (long t, le-leb (length t) slot far) (or-true (leb slots slot)))
 
-    pub stored : slot < slots → slot < length t → (a : Answer) (y : Connection) → Meets Sound connection.meaning (getD t slot empty) (inSlot (connection.meaning (getD t slot empty)) e) a y
+    pub stored : slot < slots → slot < length t → (a : Answer) (y : Connection)
+        → Meets Sound connection.meaning (getD t slot empty) (inSlot (connection.meaning (getD t slot empty)) e) a y
         → Meets AllSound meaning t (on (meaning t) slot e) a (set t slot y)
     unfolding meaning
     stored small short a y m =
         rw (on-inside small short)
-        (part (set t slot) (set (meaning t) slot) t (getD t slot empty) (inSlot (connection.meaning (getD t slot empty)) e) a y (set-getD t slot empty)
-        (λ q. map-set connection.meaning t slot q) m (all-set Sound empty t slot y all (m .sound)))
+        (part (set t slot) (set (meaning t) slot) t (getD t slot empty) (inSlot (connection.meaning (getD t slot empty)) e) a y
+        (set-getD t slot empty) (λ q. map-set connection.meaning t slot q) m (all-set Sound empty t slot y all (m .sound)))
+
+-- ---- a table that is emptied
+empty-slots : (n : ℕ) → meaning (replicate n empty) ≡ replicate n rule.empty
+unfolding meaning
+empty-slots zero = refl
+empty-slots (suc n) = λ i. empty-means i ∷ empty-slots n i
+
+pub empties : (t : List Connection) → meaning (replicate (length t) empty) ≡ emptied (meaning t)
+unfolding emptied
+empties t = empty-slots (length t) ∙ ap (λ (n : ℕ). replicate n rule.empty) (sym (long t))
+
+pub empty-sound : (n : ℕ) → AllSound (replicate n empty)
+empty-sound n slot = inl (getD-alike empty n slot)

@@ -81,13 +81,6 @@ first-one f n r s a b = go (decLt r s) (decLt s r)
     go (no l) (yes m) = absurd (never s r b a m)
     go (no l) (no m) = omega arith
 
-pub first-same : (f g : ℕ → Bool) (n r : ℕ) → ((i : ℕ) → i < n → f i ≡ g i) → First f n r → First g n r
-first-same f g n r e h = record {
-  within = h .within;
-  none = λ i l. sym (e i (omega (arith, h .within))) ∙ h .none i l;
-  here = λ l. sym (e r l) ∙ h .here l;
-}
-
 -- a walk over the indices from 0 on: one more that fails, one that passes, the end
 module _ (f : ℕ → Bool) (r : ℕ) (before : (i : ℕ) → i < r → f i ≡ false) where
   pub none-more : f r ≡ false → (i : ℕ) → i < r + 1 → f i ≡ false
