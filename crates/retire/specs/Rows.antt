@@ -31,6 +31,10 @@ names first upto b p = ltb p upto || has-bit b (after first p)
 abbrev pub sizeAt : List ℕ → ℕ → ℕ → ℕ
 sizeAt sizes first p = getD sizes ((first + p) % largest-room) 0
 
+-- so many words that the sizes of all their bits, of 16 bits each, add up in 32 bits
+abbrev pub longest-weighed : ℕ
+longest-weighed = 512
+
 -- one word: what is named is retired and unmarked, and what was not retired before is fresh
 pub record OneRetired (retired marked named : ℕ) (r : Retired) : Type 0 where
   pub retired-are : Bits (r .retired) (λ i. bitAt retired i || bitAt named i)

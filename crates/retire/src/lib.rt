@@ -7,7 +7,7 @@ ghost use Rattle.word.specs.Index.{weigh};
 ghost use Rattle.word.specs.Word.{bitAt, Bits};
 ghost use Rattle.row.specs.Row.{longest};
 ghost use Rattle.rules.specs.Numbers.{largest-room};
-ghost use Rattle.retire.specs.Rows.{ahead, bitOfBlock, names, sizeAt, OneRetired, Retires};
+ghost use Rattle.retire.specs.Rows.{ahead, bitOfBlock, names, sizeAt, OneRetired, Retires, longest-weighed};
 use psn::HALF;
 use psn::Psn;
 use psn::TURN;
@@ -108,7 +108,7 @@ pub fn retire(
     upto: u32,
     block: Block,
 ) -> Sum
-    requires { ⌜ (length (now marked) ≡ length (now retired)) × (length (now retired) ≤ 512) × (length (now sizes) ≡ largest-room) ⌝ }
+    requires { ⌜ (length (now marked) ≡ length (now retired)) × (length (now retired) ≤ longest-weighed) × (length (now sizes) ≡ largest-room) ⌝ }
     ensures { λ r. ⌜ Retires (now (retired .entry)) (now (marked .entry)) (now (sizes .entry)) (first .0) (names (first .0) upto block) (now (retired .exit)) (now (marked .exit)) r ⌝ }
 {
     let n = retired.len();

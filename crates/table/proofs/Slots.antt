@@ -1,5 +1,5 @@
 -- A slot that is outside is refused and leaves the table, and what is stored to one that is not is what the table's rule stores; a table
--- that is emptied is what the rules empty it to. Assumes nothing.
+-- that is emptied is what the rules empty it to; and every table that calls leave meets the premise. Assumes nothing.
 use mathlib.Core.Path.{_≡_, refl, sym, ap, _∙_}
 use mathlib.Core.Bool.{true, not, _&&_, or-true}
 use mathlib.Core.List.{List, map, _∷_}
@@ -14,7 +14,8 @@ use Rattle.rules.specs.Outcome.{Refused, refuse, within}
 use Rattle.rules.specs.Promise.{Meets}
 use Rattle.rules.specs.Connection.{unused, step}
 use Rattle.rules.specs.Connection as rule
-use Rattle.rules.specs.Table.{at, is-start, outside, on, emptied}
+use Rattle.rules.specs.Table.{at, is-start, outside, on}
+use Rattle.rules.specs.Table as rule-table
 use Rattle.rules.specs.declared.Event.{Event}
 use Rattle.rules.specs.declared.Answer.{Answer}
 use Rattle.rules.specs.declared.Answer.the-variants as answer
@@ -25,7 +26,7 @@ use Rattle.connection.specs.declared.Connection.{Connection}
 use Rattle.connection.specs.Record.{empty, Sound}
 use Rattle.connection.specs.Record as connection
 use Rattle.connection.proofs.Sides.{empty-means}
-use Rattle.table.specs.Slots.{AllSound, inSlot, meaning}
+use Rattle.table.specs.Slots.{AllSound, inSlot, meaning, Reached, emptied, after-event}
 
 -- what stands for a missing element is not asked where none is missing
 pub getD-within : {A : Type 0} (e : A) (l : List A) (i : ℕ) (d : A) → i < length l → getD l i d ≡ getD l i e
@@ -83,9 +84,14 @@ unfolding meaning
 empty-slots zero = refl
 empty-slots (suc n) = λ i. empty-means i ∷ empty-slots n i
 
-pub empties : (t : List Connection) → meaning (replicate (length t) empty) ≡ emptied (meaning t)
-unfolding emptied
+pub empties : (t : List Connection) → meaning (replicate (length t) empty) ≡ rule-table.emptied (meaning t)
+unfolding rule-table.emptied
 empties t = empty-slots (length t) ∙ ap (λ (n : ℕ). replicate n rule.empty) (sym (long t))
 
 pub empty-sound : (n : ℕ) → AllSound (replicate n empty)
 empty-sound n slot = inl (getD-alike empty n slot)
+
+-- the one premise of an event is met after any calls
+pub reached-sound : {t : List Connection} → Reached t → AllSound t
+reached-sound (emptied n) = empty-sound n
+reached-sound (after-event r slot e a u m) = m .sound

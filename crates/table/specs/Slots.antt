@@ -2,11 +2,13 @@
 use mathlib.Core.Bool.{not, _&&_}
 use mathlib.Core.List.{List, map}
 use Prim.Native.Nat.{ℕ}
-use lib.ListN.{getD}
+use lib.ListN.{getD, replicate}
 use Rattle.rules.specs.Outcome.{Outcome, refuse}
+use Rattle.rules.specs.Promise.{Meets}
 use Rattle.rules.specs.Connection.{unused, step}
 use Rattle.rules.specs.Connection as rule
-use Rattle.rules.specs.Table.{is-start}
+use Rattle.rules.specs.Table.{is-start, on}
+use Rattle.rules.specs.declared.Answer.{Answer}
 use Rattle.rules.specs.declared.Event.{Event}
 use Rattle.connection.specs.declared.Connection.{Connection}
 use Rattle.connection.specs.Record.{empty, Sound}
@@ -22,3 +24,10 @@ AllSound t = (slot : ℕ) → Sound (getD t slot empty)
 -- an event on the record of a slot: 3, then the connection's own
 unfoldable pub inSlot : rule.Connection → Event → Outcome rule.Connection
 inSlot c e = refuse (is-start e && not (unused c)) 3 (step c e)
+
+-- "a call of its own first empties every slot lent": the tables that it and any events after it leave
+pub data Reached : List Connection → Type 0 where
+  emptied : (n : ℕ) → Reached (replicate n empty)
+  after-event : {t : List Connection} → Reached t → (slot : ℕ) (e : Event) (a : Answer) (u : List Connection)
+      → Meets AllSound meaning t (on (meaning t) slot e) a u
+      → Reached u
