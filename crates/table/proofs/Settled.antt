@@ -23,7 +23,8 @@ pub event-settled : (t : List Connection) (slot : ℕ) (e : Event) (a b : Answer
     → (a ≡ b) × (meaning u ≡ meaning v)
 event-settled t slot e a b u v = settled a b u v
 
-pub on-settled : (t : Table) (slot : ℕ) (e : Event) (r s : Answered) → Allows (t .slots) slot e (r .answer) (r .table .slots) → Allows (t .slots) slot e (s .answer) (s .table .slots)
+pub on-settled : (t : Table) (slot : ℕ) (e : Event) (r s : Answered) → Allows (t .slots) slot e (r .answer) (r .table .slots)
+    → Allows (t .slots) slot e (s .answer) (s .table .slots)
     → (r .answer ≡ s .answer) × (meaning (r .table .slots) ≡ meaning (s .table .slots))
 on-settled t slot e r s = settled (r .answer) (s .answer) (r .table .slots) (s .table .slots)
 

@@ -49,8 +49,8 @@ pub total-window : (s n m : ℕ) (f : ℕ → ℕ) → ((i : ℕ) → i < s → 
 total-window s n m f low high h =
     let r = m - (s + n) in
     let e : m ≡ s + (n + r) = omega arith in
-    ap (λ (k : ℕ). total k f) e ∙ total-add s (n + r) f
-    ∙ omega (arith, total-none s f low, total-add n r (λ i. f (s + i)), total-none r (λ i. f (s + (n + i))) (λ i p. high (s + (n + i)) (omega arith) (omega arith)))
+    let past : total r (λ i. f (s + (n + i))) ≡ 0 = total-none r _ (λ i p. high (s + (n + i)) (omega arith) (omega arith)) in
+    ap (λ (k : ℕ). total k f) e ∙ total-add s (n + r) f ∙ omega (arith, total-none s f low, total-add n r (λ i. f (s + i)), past)
 
 -- the first term by itself
 pub total-first : (n : ℕ) (f : ℕ → ℕ) → total (suc n) f ≡ f 0 + total n (λ i. f (suc i))

@@ -21,7 +21,8 @@ on-requires c κs = search needs
 add-t16 : tie.Need-add-t16
 add-t16 c =
     let entry = c .before .before .before .before .before .before .before .before in
-    let is-record = answered-read _ _ _ _ (c .before .before .before .before .before .before .read .ensures) (c .before .before .before .before .slot .given .1) in
+    let is = c .before .before .before .before .slot .given .1 in
+    let is-record = answered-read _ _ _ _ (c .before .before .before .before .before .before .read .ensures) is in
     record { fits = omega (arith, count-behind (entry .args .log .now) _ (entry .args .self .count) _ _ _ _ is-record (entry .pre .count-low)) }
 
 enum-known-stop : tie.Need-enum-known-stop
@@ -30,7 +31,8 @@ enum-known-stop c = search needs
 returns : tie.Need-returns
 returns c =
     let entry = c .before .before .before .before .before .before .before .before in
-    let is-record = answered-read _ _ _ _ (c .before .before .before .before .before .before .read .ensures) (c .before .before .before .before .slot .given .1) in
+    let is = c .before .before .before .before .slot .given .1 in
+    let is-record = answered-read _ _ _ _ (c .before .before .before .before .before .before .read .ensures) is in
     turned-on (entry .args .log .now) (entry .args .self) _ _ _ _ _ (entry .pre) is-record
     (record { more-is = refl; kind-is = refl; answer-meets = c .before .on .ensures; stop-is = refl; place-is = refl; count-is = refl })
 
