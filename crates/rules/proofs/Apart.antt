@@ -46,7 +46,15 @@ code-apart v w h = sym (verdict-back v) ∙ ap verdictOf h ∙ verdict-back w
 acked : Line → Answer
 acked l =
     let n : ℕ → ℕ = λ i. getD (l .values) i 0 in
-    answer.Acked (verdictOf (n 0)) (record { cack = psn (n 1); block = record { base = psn (n 2); bitmap = n 3 }; count = n 4; mpr = getD (l .unprinted) 0 0; entropy = n 5; rtx = eqb (n 6) 1; mark = eqb (n 7) 1 })
+    answer.Acked (verdictOf (n 0)) (record {
+      cack = psn (n 1);
+      block = record { base = psn (n 2); bitmap = n 3 };
+      count = n 4;
+      mpr = getD (l .unprinted) 0 0;
+      entropy = n 5;
+      rtx = eqb (n 6) 1;
+      mark = eqb (n 7) 1;
+    })
 
 nacked : Line → Answer
 nacked l =
@@ -78,7 +86,15 @@ answer-back (answer.Sent p) = refl
 answer-back (answer.Acked v k) =
     let rtx = digit-back (k .rtx) in
     let mark = digit-back (k .mark) in
-    λ i. answer.Acked (verdict-back v i) (record { cack = k .cack; block = k .block; count = k .count; mpr = k .mpr; entropy = k .entropy; rtx = rtx i; mark = mark i })
+    λ i. answer.Acked (verdict-back v i) (record {
+      cack = k .cack;
+      block = k .block;
+      count = k .count;
+      mpr = k .mpr;
+      entropy = k .entropy;
+      rtx = rtx i;
+      mark = mark i;
+    })
 answer-back (answer.Nacked v k) =
     let rtx = digit-back (k .rtx) in
     λ i. answer.Nacked (verdict-back v i) (record { psn = k .psn; reason = k .reason; entropy = k .entropy; rtx = rtx i })

@@ -51,7 +51,8 @@ by-kind P a b c d e f g h (suc (suc (suc (suc (suc zero))))) o = e
 by-kind P a b c d e f g h (suc (suc (suc (suc (suc (suc zero)))))) o = f
 by-kind P a b c d e f g h (suc (suc (suc (suc (suc (suc (suc zero))))))) o = g
 by-kind P a b c d e f g h (suc (suc (suc (suc (suc (suc (suc (suc zero)))))))) o = h
-by-kind P a b c d e f g h (suc (suc (suc (suc (suc (suc (suc (suc (suc k))))))))) o = absurd (omega (arith, known-range (suc (suc (suc (suc (suc (suc (suc (suc (suc k))))))))) o))
+by-kind P a b c d e f g h (suc (suc (suc (suc (suc (suc (suc (suc (suc k))))))))) o =
+    absurd (omega (arith, known-range (suc (suc (suc (suc (suc (suc (suc (suc (suc k))))))))) o))
 
 pub kind-again : (k : ℕ) (l : List ℕ) → kind-ok k ≡ true → kindOf (eventOf k l) ≡ k
 unfolding eventOf kindOf

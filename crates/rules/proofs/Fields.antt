@@ -80,5 +80,6 @@ pub spell-all-number-all : (ws l : List ℕ) → Bytes l → sum ws ≤ length l
 unfolding spell-all number-all sum
 spell-all-number-all [] l b h = refl
 spell-all-number-all (w ∷ ws) l b h =
-    ap₂ (λ (x y : List ℕ). x ++ y) (spell-number-take w l b (omega arith)) (spell-all-number-all ws (drop w l) (bytes-drop w l b) (omega (arith, length-drop w l)))
+    ap₂ (λ (x y : List ℕ). x ++ y) (spell-number-take w l b (omega arith))
+    (spell-all-number-all ws (drop w l) (bytes-drop w l b) (omega (arith, length-drop w l)))
     ∙ sym (take-add w (sum ws) l)

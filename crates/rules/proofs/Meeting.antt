@@ -40,11 +40,14 @@ within-refused whole (Refused m) n h = ap Refused (let same : m ≡ n = cc in sa
 within-refused whole (Done s b) n h = absurd (never-both (Done (whole s) b) (whole s) b n refl h)
 
 -- An event on a part p of the record x: `put y` is x with y in its place, and `whole` says the same of what the records mean.
-pub part : {P Q R S : Type 0} {SoundP : P → Type 0} {meaningP : P → Q} {Sound : R → Type 0} {meaning : R → S} (put : P → R) (whole : Q → S) (x : R) (p : P) (o : Outcome Q) (a : Answer) (y : P)
-    → put p ≡ x → ((q : P) → meaning (put q) ≡ whole (meaningP q)) → Meets SoundP meaningP p o a y → Sound (put y) → Meets Sound meaning x (within whole o) a (put y)
+pub part : {P Q R S : Type 0} {SoundP : P → Type 0} {meaningP : P → Q} {Sound : R → Type 0} {meaning : R → S}
+    (put : P → R) (whole : Q → S) (x : R) (p : P) (o : Outcome Q) (a : Answer) (y : P)
+    → put p ≡ x → ((q : P) → meaning (put q) ≡ whole (meaningP q)) → Meets SoundP meaningP p o a y → Sound (put y)
+    → Meets Sound meaning x (within whole o) a (put y)
 part {meaningP = meaningP} {meaning = meaning} put whole x p o a y same means m sound = record {
   answer-is = m .answer-is ∙ ap paper (sym (answered-within whole o));
-  record-is = means y ∙ ap whole (m .record-is) ∙ sym (left-within whole (meaningP p) o) ∙ ap (λ s. left s (within whole o)) (sym (means p) ∙ ap meaning same);
+  record-is = means y ∙ ap whole (m .record-is) ∙ sym (left-within whole (meaningP p) o)
+      ∙ ap (λ s. left s (within whole o)) (sym (means p) ∙ ap meaning same);
   untouched = λ n h. ap put (m .untouched n (within-refused whole o n h)) ∙ same;
   sound = sound;
 }

@@ -22,7 +22,8 @@ pub record Holds (log : List ℕ) (place slot : ℕ) (e : Event) (kind next : �
   pub next-is : next ≡ place + whole kind
 
 -- a test before a record was false
-passed : {o : Read} {slot : ℕ} {e : Event} {kind next : ℕ} (t : Bool) (n : ℕ) → cond t (Nothing n) o ≡ Record slot e kind next → (t ≡ false) × (o ≡ Record slot e kind next)
+passed : {o : Read} {slot : ℕ} {e : Event} {kind next : ℕ} (t : Bool) (n : ℕ) → cond t (Nothing n) o ≡ Record slot e kind next
+    → (t ≡ false) × (o ≡ Record slot e kind next)
 passed true n h = let z : _≡_ {A = ℕ} 0 1 = cc in absurd (omega arith)
 passed false n h = (refl, h)
 
@@ -33,7 +34,8 @@ four (a ∷ b ∷ []) h = absurd (omega arith)
 four (a ∷ b ∷ c ∷ []) h = absurd (omega arith)
 four (a ∷ b ∷ c ∷ d ∷ l) h = refl
 
-left-begins : (l : List ℕ) (place slot : ℕ) (e : Event) (kind next : ℕ) → read-left l place ≡ Record slot e kind next → Begins l slot e kind × (next ≡ place + whole kind)
+left-begins : (l : List ℕ) (place slot : ℕ) (e : Event) (kind next : ℕ) → read-left l place ≡ Record slot e kind next
+    → Begins l slot e kind × (next ≡ place + whole kind)
 unfolding read-left
 left-begins l place slot e kind next h =
     let k = getD l 2 0 in

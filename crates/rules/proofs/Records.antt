@@ -59,6 +59,8 @@ module _ (l : List ℕ) (slot : ℕ) (e : Event) (kind : ℕ) (b : Begins l slot
   begins-encode h =
       let t = drop 4 l in
       let n = sum (widths kind) in
-      let again : spell-all (widths kind) (number-all (widths kind) t) ≡ take n t = spell-all-number-all (widths kind) t (bytes-drop 4 l h) (omega (arith, length-drop 4 l)) in
-      let mark : take (whole kind) l ≡ 0x4D ∷ 0x52 ∷ kind ∷ slot ∷ take n t = ap (take (whole kind)) (b .head) ∙ take-append-add (0x4D ∷ 0x52 ∷ kind ∷ slot ∷ []) t n in
+      let again : spell-all (widths kind) (number-all (widths kind) t) ≡ take n t =
+      spell-all-number-all (widths kind) t (bytes-drop 4 l h) (omega (arith, length-drop 4 l)) in
+      let mark : take (whole kind) l ≡ 0x4D ∷ 0x52 ∷ kind ∷ slot ∷ take n t =
+      ap (take (whole kind)) (b .head) ∙ take-append-add (0x4D ∷ 0x52 ∷ kind ∷ slot ∷ []) t n in
       simp (begins-kind, begins-fields, again, mark)

@@ -24,7 +24,8 @@ replied-same log t place n f g h (Record slot e kind next) k =
 replied-same log t place n f g h (Nothing r) k = refl
 
 -- with more than the bytes left allowed, one more allowed changes nothing
-pub enough : (most : ℕ) (log : List ℕ) (t : List Connection) (place n : ℕ) → length log - place < most → replay-from most log t place n ≡ replay-from (suc most) log t place n
+pub enough : (most : ℕ) (log : List ℕ) (t : List Connection) (place n : ℕ) → length log - place < most
+    → replay-from most log t place n ≡ replay-from (suc most) log t place n
 unfolding replay-from
 enough zero log t place n h = absurd (omega arith)
 enough (suc most) log t place n h =

@@ -43,7 +43,8 @@ room-judged r a TrimLastHop = after-done (SameRoom r) r _ _ refl
 pub room-arrive : (r : Receiver) (a : Arrival) → After (SameRoom r) r (arrive r a)
 unfolding arrive
 room-arrive r a =
-    after-refuse (SameRoom r) r _ _ _ refl λ _. after-refuse (SameRoom r) r _ _ _ refl λ _. after-refuse (SameRoom r) r _ _ _ refl λ _. after-refuse (SameRoom r) r _ _ _ refl λ _.
+    after-refuse (SameRoom r) r _ _ _ refl λ _. after-refuse (SameRoom r) r _ _ _ refl λ _.
+    after-refuse (SameRoom r) r _ _ _ refl λ _. after-refuse (SameRoom r) r _ _ _ refl λ _.
     room-judged r a (verdict r a)
 
 -- ---- the sending side
@@ -53,27 +54,32 @@ SameSpace x y = y .room ≡ x .room
 pub room-send : (x : Sender) (size : ℕ) → After (SameSpace x) x (send x size)
 unfolding send with-entries
 room-send x size =
-    after-refuse (SameSpace x) x _ _ _ refl λ _. after-refuse (SameSpace x) x _ _ _ refl λ _. after-refuse (SameSpace x) x _ _ _ refl λ _. after-done (SameSpace x) x _ _ refl
+    after-refuse (SameSpace x) x _ _ _ refl λ _. after-refuse (SameSpace x) x _ _ _ refl λ _. after-refuse (SameSpace x) x _ _ _ refl λ _.
+    after-done (SameSpace x) x _ _ refl
 
 pub room-sack : (x : Sender) (cack : Psn) (b : Block) → After (SameSpace x) x (sack x cack b)
 unfolding sack after-sack settle
 room-sack x cack b =
-    after-refuse (SameSpace x) x _ _ _ refl λ _. after-refuse (SameSpace x) x _ _ _ refl λ _. after-refuse (SameSpace x) x _ _ _ refl λ _. after-done (SameSpace x) x _ _ refl
+    after-refuse (SameSpace x) x _ _ _ refl λ _. after-refuse (SameSpace x) x _ _ _ refl λ _. after-refuse (SameSpace x) x _ _ _ refl λ _.
+    after-done (SameSpace x) x _ _ refl
 
 room-mark : (tell : ℕ → Answer) (x : Sender) (p : ℕ) → After (SameSpace x) x (mark tell x p)
 unfolding mark with-entries
 room-mark tell x p =
-    after-cond (SameSpace x) x (getD (map markable (x .entries)) (index x p) false) _ _ (λ _. after-done (SameSpace x) x _ _ refl) (λ _. after-done (SameSpace x) x _ _ refl)
+    after-cond (SameSpace x) x (getD (map markable (x .entries)) (index x p) false) _ _
+    (λ _. after-done (SameSpace x) x _ _ refl) (λ _. after-done (SameSpace x) x _ _ refl)
 
 pub room-timer : (x : Sender) (p : Psn) → After (SameSpace x) x (timer x p)
 unfolding timer
 room-timer x p =
-    after-refuse (SameSpace x) x _ _ _ refl λ _. after-refuse (SameSpace x) x _ _ _ refl λ _. after-refuse (SameSpace x) x _ _ _ refl λ _. room-mark answer.Expired x (p .0)
+    after-refuse (SameSpace x) x _ _ _ refl λ _. after-refuse (SameSpace x) x _ _ _ refl λ _. after-refuse (SameSpace x) x _ _ _ refl λ _.
+    room-mark answer.Expired x (p .0)
 
 pub room-nack : (x : Sender) (p : Psn) (reason : ℕ) → After (SameSpace x) x (nack x p reason)
 unfolding nack
 room-nack x p reason =
-    after-refuse (SameSpace x) x _ _ _ refl λ _. after-refuse (SameSpace x) x _ _ _ refl λ _. after-refuse (SameSpace x) x _ _ _ refl λ _. after-refuse (SameSpace x) x _ _ _ refl λ _.
+    after-refuse (SameSpace x) x _ _ _ refl λ _. after-refuse (SameSpace x) x _ _ _ refl λ _.
+    after-refuse (SameSpace x) x _ _ _ refl λ _. after-refuse (SameSpace x) x _ _ _ refl λ _.
     after-cond (SameSpace x) x (leb reason 4) _ _ (λ _. room-mark answer.Marked x (p .0)) (λ _. after-done (SameSpace x) x _ _ refl)
 
 pub room-resend : (x : Sender) → After (SameSpace x) x (resend x)

@@ -17,8 +17,8 @@ use Rattle.rules.proofs.Reading.{read-holds, holds-read}
 use Rattle.rules.proofs.Writing.{write-writable, writable-write}
 
 -- "A log record written is read back as the same event": wherever it stands in a log
-pub encode-read : (slot : ℕ) (e : Event) (before after : List ℕ) (n : ℕ) → Fits (widths (kindOf e)) (fieldsOf e) → write e n ≡ writing.Length (whole (kindOf e))
-    → length (before ++ (encode slot e ++ after)) ≤ longest-log
+pub encode-read : (slot : ℕ) (e : Event) (before after : List ℕ) (n : ℕ) → Fits (widths (kindOf e)) (fieldsOf e)
+    → write e n ≡ writing.Length (whole (kindOf e)) → length (before ++ (encode slot e ++ after)) ≤ longest-log
     → read (before ++ (encode slot e ++ after)) (length before) ≡ Record slot e (kindOf e) (length before + whole (kindOf e))
 encode-read slot e before after n f w l =
     let low = write-writable e n (whole (kindOf e)) w .0 .low in
@@ -26,7 +26,8 @@ encode-read slot e before after n f w l =
     (record { short = l; begins = rw drop-append-seam (encode-begins slot e after f low); next-is = refl })
 
 -- and in the buffer that it was written to
-pub write-read : (slot : ℕ) (e : Event) (buffer : List ℕ) (n : ℕ) → Fits (widths (kindOf e)) (fieldsOf e) → length buffer ≤ longest-log → write e (length buffer) ≡ writing.Length n
+pub write-read : (slot : ℕ) (e : Event) (buffer : List ℕ) (n : ℕ) → Fits (widths (kindOf e)) (fieldsOf e)
+    → length buffer ≤ longest-log → write e (length buffer) ≡ writing.Length n
     → read (written slot e buffer (writing.Length n)) 0 ≡ Record slot e (kindOf e) n
 unfolding written
 write-read slot e buffer n f l w =
@@ -37,13 +38,15 @@ write-read slot e buffer n f l w =
     encode-read slot e [] (drop n buffer) (length buffer) f (w ∙ ap writing.Length m) long ∙ ap (Record slot e (kindOf e)) (omega arith)
 
 -- what is read has the kind that it says, and fits
-pub read-kind : (log : List ℕ) (place slot : ℕ) (e : Event) (kind next : ℕ) → read log place ≡ Record slot e kind next → (kind ≡ kindOf e) × (next ≡ place + whole kind) × (next ≤ length log)
+pub read-kind : (log : List ℕ) (place slot : ℕ) (e : Event) (kind next : ℕ) → read log place ≡ Record slot e kind next
+    → (kind ≡ kindOf e) × (next ≡ place + whole kind) × (next ≤ length log)
 read-kind log place slot e kind next h =
     let r = read-holds log place slot e kind next h in
     let b = r .begins in
     (sym (begins-kind (drop place log) slot e kind b), r .next-is, omega (arith, r .next-is, b .room, length-drop place log))
 
-pub read-fits : (log : List ℕ) (place slot : ℕ) (e : Event) (kind next : ℕ) → Bytes log → read log place ≡ Record slot e kind next → Fits (widths (kindOf e)) (fieldsOf e)
+pub read-fits : (log : List ℕ) (place slot : ℕ) (e : Event) (kind next : ℕ) → Bytes log → read log place ≡ Record slot e kind next
+    → Fits (widths (kindOf e)) (fieldsOf e)
 read-fits log place slot e kind next b h =
     begins-fits (drop place log) slot e kind (read-holds log place slot e kind next h .begins) (bytes-drop place log b)
 
@@ -55,7 +58,8 @@ read-encode log place slot e kind next b h =
     let n : next - place ≡ whole kind = omega (arith, r .next-is) in
     rw n (begins-encode (drop place log) slot e kind (r .begins) (bytes-drop place log b))
 
-pub read-write : (log : List ℕ) (place slot : ℕ) (e : Event) (kind next : ℕ) (buffer : List ℕ) → Bytes log → read log place ≡ Record slot e kind next → next - place ≤ length buffer
+pub read-write : (log : List ℕ) (place slot : ℕ) (e : Event) (kind next : ℕ) (buffer : List ℕ) → Bytes log
+    → read log place ≡ Record slot e kind next → next - place ≤ length buffer
     → (write e (length buffer) ≡ writing.Length (next - place))
     × (written slot e buffer (write e (length buffer)) ≡ take (next - place) (drop place log) ++ drop (next - place) buffer)
 unfolding written

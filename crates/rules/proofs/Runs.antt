@@ -33,7 +33,10 @@ whole-start c m p n q w =
     after-refuse Whole c _ _ _ w λ r. after-refuse Whole c _ _ _ w λ s.
     let rooms = and-true-each (room-ok m) (room-ok n) (not-false _ r) in
     let psns = and-true-each (psn-ok p) (psn-ok q) (not-false _ s) in
-    after-done Whole c _ _ (inr (record { sends = sends-fresh m (p .0) (rooms .0); receives = receives-fresh n (q .0) (rooms .1) (ltb-true (q .0) turn (psns .1)) }))
+    after-done Whole c _ _ (inr (record {
+      sends = sends-fresh m (p .0) (rooms .0);
+      receives = receives-fresh n (q .0) (rooms .1) (ltb-true (q .0) turn (psns .1));
+    }))
 
 -- an empty connection refuses all else
 empty-step : (e : Event) → After Whole empty (step empty e)

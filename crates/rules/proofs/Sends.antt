@@ -33,7 +33,8 @@ sends-fresh n p h = record {
   entries-held = tt;
 }
 
-first-of-more : (l m : List Entry) → getD (map is-retired l) 0 false ≡ false → getD (map is-retired m) 0 false ≡ false → getD (map is-retired (l ++ m)) 0 false ≡ false
+first-of-more : (l m : List Entry) → getD (map is-retired l) 0 false ≡ false → getD (map is-retired m) 0 false ≡ false
+    → getD (map is-retired (l ++ m)) 0 false ≡ false
 first-of-more [] m h k = k
 first-of-more (e ∷ l) m h k = h
 
@@ -91,7 +92,8 @@ pub sends-sack : (x : Sender) (cack : Psn) (b : Block) → Sends x → After Sen
 unfolding sack after-sack
 sends-sack x cack b k =
     after-refuse Sends x _ _ _ k λ _. after-refuse Sends x _ _ _ k λ _. after-refuse Sends x _ _ _ k λ _.
-    after-done Sends x _ _ (sends-settle x _ k (omega (arith, length-retire (named x (cack .0) b) (x .entries), k .room-left)) (all-retire _ (x .entries) (k .entries-held)))
+    let long = length-retire (named x (cack .0) b) (x .entries) in
+    after-done Sends x _ _ (sends-settle x _ k (omega (arith, long, k .room-left)) (all-retire _ (x .entries) (k .entries-held)))
 
 -- marks: one is set only where nothing is retired, and may be taken anywhere
 held-mark : (e : Entry) → markable e ≡ true → Held e → Held (with-mark true e)
@@ -114,7 +116,8 @@ held-unmark e h = record { size-good = h .size-good; not-both = go (e .retired) 
     go true = refl
     go false = refl
 
-sends-marks : (x : Sender) (b : Bool) (i : ℕ) → Sends x → All Held (update (with-mark b) (x .entries) i) → Sends (with-entries x (update (with-mark b) (x .entries) i))
+sends-marks : (x : Sender) (b : Bool) (i : ℕ) → Sends x → All Held (update (with-mark b) (x .entries) i)
+    → Sends (with-entries x (update (with-mark b) (x .entries) i))
 unfolding with-entries
 sends-marks x b i k h = record {
   room-good = k .room-good;

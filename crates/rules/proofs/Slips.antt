@@ -29,7 +29,8 @@ pub trimmed-keeps : (r : Receiver) (a : Arrival) → (trimmed (a .flags) || trim
 unfolding arrive verdict
 trimmed-keeps r a h =
     let all : After (Same r) r (arrive r a) =
-    after-refuse (Same r) r _ _ _ refl λ _. after-refuse (Same r) r _ _ _ refl λ _. after-refuse (Same r) r _ _ _ refl λ _. after-refuse (Same r) r _ _ _ refl λ _.
+    after-refuse (Same r) r _ _ _ refl λ _. after-refuse (Same r) r _ _ _ refl λ _.
+    after-refuse (Same r) r _ _ _ refl λ _. after-refuse (Same r) r _ _ _ refl λ _.
     judged-trimmed r a _ _ _ _ _ h in
     all .holds
 
@@ -53,7 +54,8 @@ stays-retired f (e ∷ l) zero h = go (f zero)
 stays-retired f (e ∷ l) (suc i) h = stays-retired (λ j. f (suc j)) l i h
 
 -- ---- "Dropping a late SACK whole because its cack is old: its set bits still count"
-pub late-bits-count : (x : Sender) (cack : ℕ) (b : Block) (i : ℕ) → outstanding x < half → behind (x .place) cack ≡ true → named x cack b i ≡ has-bit b (nth x i)
+pub late-bits-count : (x : Sender) (cack : ℕ) (b : Block) (i : ℕ) → outstanding x < half → behind (x .place) cack ≡ true
+    → named x cack b i ≡ has-bit b (nth x i)
 unfolding named up-to
 late-bits-count x cack b i n h =
     let far = leb-true half (distance (x .place) cack) h in

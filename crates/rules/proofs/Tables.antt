@@ -22,7 +22,11 @@ lead-table zero f k h = omega (arith, h .within)
 lead-table (suc n) f zero h = rw (not-true (f zero) (h .here (omega arith)))
 lead-table (suc n) f (suc k) h =
     rw (not-false (f zero) (h .none zero (omega arith)))
-    (ap suc (lead-table n (λ i. f (suc i)) k (record { within = omega (arith, h .within); none = λ i l. h .none (suc i) (omega arith); here = λ l. h .here (omega arith) })))
+    (ap suc (lead-table n (λ i. f (suc i)) k (record {
+      within = omega (arith, h .within);
+      none = λ i l. h .none (suc i) (omega arith);
+      here = λ l. h .here (omega arith);
+    })))
 
 -- moved on, where nothing past the end is true
 pub slide-table : (n : ℕ) (f : ℕ → Bool) (k : ℕ) → k ≤ n → ((i : ℕ) → n ≤ i → f i ≡ false) → slide k (table n f) ≡ table n (λ i. f (k + i))
@@ -43,7 +47,8 @@ pub update-table : {A : Type 0} (g : A → A) (n : ℕ) (f : ℕ → A) (i : ℕ
 unfolding update table
 update-table g zero f i = refl
 update-table {A} g (suc n) f zero =
-    ap (λ (l : List A). g (f zero) ∷ l) (table-same n _ _ (λ j p. sym (ap (λ (b : Bool). cond b (g (f (suc j))) (f (suc j))) (ne-eqb (suc j) zero (omega arith)))))
+    ap (λ (l : List A). g (f zero) ∷ l)
+    (table-same n _ _ (λ j p. sym (ap (λ (b : Bool). cond b (g (f (suc j))) (f (suc j))) (ne-eqb (suc j) zero (omega arith)))))
 update-table {A} g (suc n) f (suc i) =
     ap₂ (λ (x : A) (l : List A). x ∷ l) (sym (ap (λ (b : Bool). cond b (g (f zero)) (f zero)) (ne-eqb zero (suc i) (omega arith))))
     (update-table g n (λ j. f (suc j)) i ∙ table-same n _ _ (λ j p. ap (λ (b : Bool). cond b (g (f (suc j))) (f (suc j))) (sym (eqb·suc-suc j i))))

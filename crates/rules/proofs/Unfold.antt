@@ -14,5 +14,17 @@ use Rattle.rules.specs.Log.{layouts, widths, spell, spell-all, number, n
 use Rattle.rules.specs.Replay.{line, stop, then, replied, replay-from, replay}
 
 unfoldable pub rules : Unit {0}
-unfolding bitAt after distance room-ok size-ok flags-ok reason-ok lead slide pack any sum update refuse left answered within started receiver.fresh receiver.start receiver.judge receiver.known receiver.beyond receiver.verdict receiver.accept receiver.block-at receiver.block receiver.sackOf receiver.reasonOf receiver.nackOf receiver.judged receiver.arrive sender.next sender.size-held sender.held sender.fresh sender.start sender.with-entries sender.send sender.index sender.unsent unsent-cack up-to unsent-bit names-unsent has-bit named retire newly settle after-sack report sack mark timer nack nearest resend connection.start connection.close connection.step outside is-start on emptied code paper kindOf fieldsOf read-line written-line layouts widths spell spell-all number number-all eventOf encode read-left read high-psn write written line stop then replied replay-from replay
+unfolding bitAt after distance room-ok size-ok flags-ok reason-ok
+    lead slide pack any sum update
+    refuse left answered within started
+    receiver.fresh receiver.start receiver.judge receiver.known receiver.beyond receiver.verdict receiver.accept
+    receiver.block-at receiver.block receiver.sackOf receiver.reasonOf receiver.nackOf receiver.judged receiver.arrive
+    sender.next sender.size-held sender.held sender.fresh sender.start sender.with-entries sender.send sender.index sender.unsent
+    unsent-cack up-to unsent-bit names-unsent has-bit named retire newly settle after-sack report sack
+    mark timer nack nearest resend
+    connection.start connection.close connection.step
+    outside is-start on emptied
+    code paper kindOf fieldsOf read-line written-line
+    layouts widths spell spell-all number number-all eventOf encode read-left read high-psn write written
+    line stop then replied replay-from replay
 rules = tt
