@@ -46,12 +46,15 @@ pub said : (t t′ : List Connection) (slot : ℕ) (e : Event) (a : Answer) → 
 said t t′ slot e a m = answers-apart a (answered (on (meaning t) slot e)) (m .answer-is)
 
 -- a slot of the table stays one
-pub stays : (t t′ : List Connection) (slot : ℕ) (e : Event) (a : Answer) (i : ℕ) → On t slot e a t′ → outside (meaning t) i ≡ false → outside (meaning t′) i ≡ false
+pub stays : (t t′ : List Connection) (slot : ℕ) (e : Event) (a : Answer) (i : ℕ) → On t slot e a t′
+    → outside (meaning t) i ≡ false → outside (meaning t′) i ≡ false
 stays t t′ slot e a i m h = ap (λ (l : List rule.Connection). outside l i) (m .record-is) ∙ still-here (meaning t) slot e i h
 
--- ---- an event on the sending side of slot i, and on the receiving side of slot j
-module _ (t t′ : List Connection) (i : ℕ) (e : Event) (a : Answer) (m : On t i e a t′) (here : outside (meaning t) i ≡ false) (other : is-start e ≡ false) where
-  module _ (x : rule-sender.Sender) (same : at (meaning t) i .sender ≡ x) (law : rule-sender.Sender → Outcome rule-sender.Sender) (is : step (at (meaning t) i) e ≡ within (with-sender (at (meaning t) i)) (law (at (meaning t) i .sender))) where
+-- ---- an event on the sending side of slot i, and one on its receiving side
+module _ (t t′ : List Connection) (i : ℕ) (e : Event) (a : Answer) (m : On t i e a t′)
+    (here : outside (meaning t) i ≡ false) (other : is-start e ≡ false) where
+  module _ (x : rule-sender.Sender) (same : at (meaning t) i .sender ≡ x) (law : rule-sender.Sender → Outcome rule-sender.Sender)
+      (is : step (at (meaning t) i) e ≡ within (with-sender (at (meaning t) i)) (law (at (meaning t) i .sender))) where
     pub sent-answer : a ≡ answered (law x)
     sent-answer = said t t′ i e a m ∙ sender-answer (meaning t) i e here other law is ∙ ap (λ (y : rule-sender.Sender). answered (law y)) same
 
@@ -71,11 +74,15 @@ module _ (t t′ : List Connection) (i : ℕ) (e : Event) (a : Answer) (m : On t
         ∙ ap (λ (y : rule-receiver.Receiver). left y (law y)) same
 
 -- ---- anything else
-pub sending-same : (t t′ : List Connection) (slot : ℕ) (e : Event) (a : Answer) (i : ℕ) → On t slot e a t′ → outside (meaning t) i ≡ false → (slot ≢ i) ⊎ Receiving e
+pub sending-same : (t t′ : List Connection) (slot : ℕ) (e : Event) (a : Answer) (i : ℕ) → On t slot e a t′
+    → outside (meaning t) i ≡ false → (slot ≢ i) ⊎ Receiving e
     → at (meaning t′) i .sender ≡ at (meaning t) i .sender
 unfolding step is-start
-sending-same t t′ slot e a i m here (inl n) = ap (λ (l : List rule.Connection). at l i .sender) (m .record-is) ∙ ap (λ (c : rule.Connection). c .sender) (at-other (meaning t) slot e i (λ p. n (sym p)))
-sending-same t t′ slot e a i m here (inr (arrival-of b)) = ap (λ (l : List rule.Connection). at l i .sender) (m .record-is) ∙ go (ℕ-discrete i slot)
+sending-same t t′ slot e a i m here (inl n) =
+    ap (λ (l : List rule.Connection). at l i .sender) (m .record-is)
+    ∙ ap (λ (c : rule.Connection). c .sender) (at-other (meaning t) slot e i (λ p. n (sym p)))
+sending-same t t′ slot e a i m here (inr (arrival-of b)) =
+    ap (λ (l : List rule.Connection). at l i .sender) (m .record-is) ∙ go (ℕ-discrete i slot)
   where
     go : Dec (i ≡ slot) → at (left (meaning t) (on (meaning t) slot (event.Arrive b))) i .sender ≡ at (meaning t) i .sender
     go (yes p) = subst (λ (k : ℕ). at (left (meaning t) (on (meaning t) k (event.Arrive b))) i .sender ≡ at (meaning t) i .sender) p
@@ -106,10 +113,14 @@ no-start (nack-of p n) = refl
 no-start (timer-of p) = refl
 no-start resend-of = refl
 
-pub receiving-same : (t t′ : List Connection) (slot : ℕ) (e : Event) (a : Answer) (j : ℕ) → On t slot e a t′ → outside (meaning t) j ≡ false → (slot ≢ j) ⊎ Sending e
+pub receiving-same : (t t′ : List Connection) (slot : ℕ) (e : Event) (a : Answer) (j : ℕ) → On t slot e a t′
+    → outside (meaning t) j ≡ false → (slot ≢ j) ⊎ Sending e
     → at (meaning t′) j .receiver ≡ at (meaning t) j .receiver
-receiving-same t t′ slot e a j m here (inl n) = ap (λ (l : List rule.Connection). at l j .receiver) (m .record-is) ∙ ap (λ (c : rule.Connection). c .receiver) (at-other (meaning t) slot e j (λ p. n (sym p)))
-receiving-same t t′ slot e a j m here (inr d) = ap (λ (l : List rule.Connection). at l j .receiver) (m .record-is) ∙ go (ℕ-discrete j slot)
+receiving-same t t′ slot e a j m here (inl n) =
+    ap (λ (l : List rule.Connection). at l j .receiver) (m .record-is)
+    ∙ ap (λ (c : rule.Connection). c .receiver) (at-other (meaning t) slot e j (λ p. n (sym p)))
+receiving-same t t′ slot e a j m here (inr d) =
+    ap (λ (l : List rule.Connection). at l j .receiver) (m .record-is) ∙ go (ℕ-discrete j slot)
   where
     go : Dec (j ≡ slot) → at (left (meaning t) (on (meaning t) slot e)) j .receiver ≡ at (meaning t) j .receiver
     go (yes p) = subst (λ (k : ℕ). at (left (meaning t) (on (meaning t) k e)) j .receiver ≡ at (meaning t) j .receiver) p

@@ -35,7 +35,8 @@ module _ (t : List Connection) (slot : ℕ) (e : Event) (here : outside t slot �
   goes-record = ap (λ (o : Outcome (List Connection)). at (left t o) slot) goes ∙ at-left t slot (step (at t slot) e) (inside t slot here)
 
   -- of the sending side
-  module _ (rule : rule-sender.Sender → Outcome rule-sender.Sender) (is : step (at t slot) e ≡ within (with-sender (at t slot)) (rule (at t slot .sender))) where
+  module _ (rule : rule-sender.Sender → Outcome rule-sender.Sender)
+      (is : step (at t slot) e ≡ within (with-sender (at t slot)) (rule (at t slot .sender))) where
     pub sender-answer : answered (on t slot e) ≡ answered (rule (at t slot .sender))
     sender-answer = goes-answer ∙ ap answered is ∙ answered-within (with-sender (at t slot)) (rule (at t slot .sender))
 
@@ -49,7 +50,8 @@ module _ (t : List Connection) (slot : ℕ) (e : Event) (here : outside t slot �
     receiver-same = ap (λ (c : Connection). c .receiver) sender-record
 
   -- of the receiving side
-  module _ (rule : rule-receiver.Receiver → Outcome rule-receiver.Receiver) (is : step (at t slot) e ≡ within (with-receiver (at t slot)) (rule (at t slot .receiver))) where
+  module _ (rule : rule-receiver.Receiver → Outcome rule-receiver.Receiver)
+      (is : step (at t slot) e ≡ within (with-receiver (at t slot)) (rule (at t slot .receiver))) where
     pub receiver-answer : answered (on t slot e) ≡ answered (rule (at t slot .receiver))
     receiver-answer = goes-answer ∙ ap answered is ∙ answered-within (with-receiver (at t slot)) (rule (at t slot .receiver))
 

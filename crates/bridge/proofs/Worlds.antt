@@ -1,4 +1,5 @@
--- What the events of a world leave alone: a packet put on the wire or a reply noted changes neither record. Assumes nothing.
+-- What the events of a world leave alone: a packet put on the wire or a reply noted changes neither record. And what an engine's promise
+-- gives: the rule's own answer and next record. Assumes nothing.
 use mathlib.Core.Path.{_≡_, refl, ap, _∙_}
 use mathlib.Core.List.{List}
 use Prim.Native.Nat.{ℕ}
@@ -37,7 +38,8 @@ reply-receiving w i (Acks b k) = refl
 reply-receiving w i (Nacks k) = refl
 
 -- what a promise gives: the rule's own answer and next record, also where the record means another that is equal
-module _ {R S : Type 0} {Sound : R → Type 0} {meaning : R → S} (x y : R) (s : S) (rule : S → Outcome S) (a : Answer) (same : meaning x ≡ s) (m : Meets Sound meaning x (rule (meaning x)) a y) where
+module _ {R S : Type 0} {Sound : R → Type 0} {meaning : R → S} (x y : R) (s : S) (rule : S → Outcome S) (a : Answer)
+    (same : meaning x ≡ s) (m : Meets Sound meaning x (rule (meaning x)) a y) where
   pub answer-of : a ≡ answered (rule s)
   answer-of = answers-apart a (answered (rule (meaning x))) (m .answer-is) ∙ ap (λ t. answered (rule t)) same
 

@@ -17,7 +17,9 @@ use Rattle.rules.specs.Kept.{All}
 use Rattle.rules.specs.declared.Arrival.{Arrival}
 use Rattle.rules.specs.declared.Sack.{Sack}
 use Rattle.rules.specs.declared.Verdict.the-variants.{Fresh, Known}
-use Rattle.delivery.specs.Network.{Start, Packet, Fate, Message, Acks, accepts, message, Note, World, sizeOf, with-sender, heard, on-hear, arrival, with-receiver, noted, reply, on-arrive, Near, Readable, Run, still, sends, resends, timers, hears, arrives}
+use Rattle.delivery.specs.Network.{Start, Packet, Fate, Message, Acks, accepts, message, Note, World, sizeOf, with-sender, heard}
+use Rattle.delivery.specs.Network.{on-hear, arrival, with-receiver, noted, reply, on-arrive, base-number, Near, Readable}
+use Rattle.delivery.specs.Network.{Run, still, sends, resends, timers, hears, arrives}
 use Rattle.delivery.specs.Promise.{among, plain}
 use Rattle.delivery.specs.Sense.{Ended, CanEnd}
 use Rattle.delivery.proofs.Rooms.{room-some, room-few}
@@ -45,25 +47,28 @@ record Onward (w v : World) : Type 0 where
   moved : w .low < v .low
 
 -- ---- a SACK past the place is heard
-module _ {s : Start} {w : World} (I : Inv s w) (n : Note) (there : List·Memᴰ n (w .notes)) (b : Bool) (k : Sack) (reply-is : n .reply ≡ Acks b k) (ahead : w .low < n .here) where
+module _ {s : Start} {w : World} (I : Inv s w) (n : Note) (there : List·Memᴰ n (w .notes))
+    (b : Bool) (k : Sack) (reply-is : n .reply ≡ Acks b k) (ahead : w .low < n .here) where
   tells : Tells s (among (w .accepted)) (n .here) k
   unfolding Told
   tells = subst (λ (q : Message). Told s (among (w .accepted)) (length (w .sent)) n q) reply-is (I .told n there)
 
+  here-near : Near (n .here) (w .low)
+  here-near = near-ahead (I .keeps) (I .bound) (n .here) k tells (omega arith)
+
+  bits-near : (j : ℕ) → j < 64 → bitAt (k .block .bitmap) j ≡ true → Near (base-number (n .here) k + j + 1) (w .low)
+  bits-near = bits-near-ahead (I .keeps) (I .bound) (n .here) k tells (omega arith)
+
   readable : Readable (w .low) n (n .reply)
   unfolding Readable
-  readable = subst (λ (q : Message). Readable (w .low) n q) (sym reply-is)
-      (near-ahead (I .keeps) (I .bound) (n .here) k tells (omega arith), bits-near-ahead (I .keeps) (I .bound) (n .here) k tells (omega arith))
+  readable = subst (λ (q : Message). Readable (w .low) n q) (sym reply-is) (here-near, bits-near)
 
   low-moves : w .low < w .low + distance (w .sending .place) (heard (w .sending) (n .reply) .place)
   unfolding heard left
   low-moves =
-      let x = w .sending in
-      let near = near-ahead (I .keeps) (I .bound) (n .here) k tells (omega arith) in
-      let bits-near = bits-near-ahead (I .keeps) (I .bound) (n .here) k tells (omega arith) in
-      let far = place-moves (I .keeps) (n .here) k tells near bits-near in
-      rw (reply-is, sack-taken (I .keeps) (I .bound) (n .here) k tells near bits-near, far)
-      (omega (arith, sack-moves (I .keeps) (I .bound) (n .here) k tells near bits-near ahead))
+      let far = place-moves (I .keeps) (n .here) k tells here-near bits-near in
+      rw (reply-is, sack-taken (I .keeps) (I .bound) (n .here) k tells here-near bits-near, far)
+      (omega (arith, sack-moves (I .keeps) (I .bound) (n .here) k tells here-near bits-near ahead))
 
   hear-on : Onward w (on-hear w n)
   unfolding on-hear with-sender
@@ -71,7 +76,10 @@ module _ {s : Start} {w : World} (I : Inv s w) (n : Note) (there : List·Memᴰ 
 
 -- where packet low is accepted, E is past it
 past : {s : Start} {w : World} → Inv s w → (i : ℕ) → i ≡ w .low → among (w .accepted) i ≡ true → i < w .at
-past {w = w} I i is e = at-least (I .holds .missing) (suc i) (λ j h. elim (decLt j i) [ yes p ↦ I .keeps .below j (omega arith) | no p ↦ ap (among (w .accepted)) (omega arith) ∙ e ])
+past {w = w} I i is e = at-least (I .holds .missing) (suc i) (λ j h. elim (decLt j i) [
+  | yes p ↦ I .keeps .below j (omega arith)
+  | no p ↦ ap (among (w .accepted)) (omega arith) ∙ e
+])
 
 -- ---- a packet comes whole
 clean : Fate
@@ -90,8 +98,10 @@ known-arrives : {s : Start} {A : ℕ → Bool} {r : Receiver} {at : ℕ} → Hol
     → arrive r (plain (after (s .first) i) z) ≡ judged r (plain (after (s .first) i) z) Known
 unfolding arrive plain bitAt flags-ok refuse verdict judge known
 known-arrives {s} {r = r} {at = at} H i z good h near =
-    let d : distance (r .expected) (after (s .first) i) ≡ turn + i - at = ap (λ (p : ℕ). distance p (after (s .first) i)) (H .expected-is) ∙ back (s .first) at i h (omega arith) in
-    rw (receiver-used H, lt-ltb (after (s .first) i) turn (after-lt (s .first) i), good, le-leb half (distance (r .expected) (after (s .first) i)) (omega arith))
+    let p : ℕ = after (s .first) i in
+    let d : ℕ = distance (r .expected) p in
+    let d-is : d ≡ turn + i - at = ap (λ (q : ℕ). distance q p) (H .expected-is) ∙ back (s .first) at i h (omega arith) in
+    rw (receiver-used H, lt-ltb p turn (after-lt (s .first) i), good, le-leb half d (omega arith))
 
 -- it is accepted now or was before, and a SACK says so
 record Acked (w v : World) (i : ℕ) : Type 0 where
@@ -121,7 +131,9 @@ acked w r l i b k e = record {
 
 module _ {s : Start} {w : World} (I : Inv s w) (p : Packet) (there : List·Memᴰ p (w .wire)) (is : p .number ≡ w .low) where
   near : Near (p .number) (w .at)
-  near = omega (arith, not-ahead I, at-most (I .holds .missing) (length (w .sent)) (not-yet I), I .keeps .next-is, I .keeps .room-left, room-few (s .send-room) (s .send-good))
+  near =
+      let at-sent = at-most (I .holds .missing) (length (w .sent)) (not-yet I) in
+      omega (arith, not-ahead I, at-sent, I .keeps .next-is, I .keeps .room-left, room-few (s .send-room) (s .send-good))
 
   size-good : size-ok (p .size) ≡ true
   size-good = let C = I .carried p there in ap size-ok (C .size-is) ∙ size-sent (w .sent) (p .number) (I .sizes) (C .was-sent)
@@ -130,20 +142,25 @@ module _ {s : Start} {w : World} (I : Inv s w) (p : Packet) (there : List·Mem�
   unfolding on-arrive arrival clean plain bitAt reply message answered left judged accepts among plus with-receiver
   arrive-acked true e =
       let r = w .receiving in
-      let a : Arrival = plain (p .psn) (p .size) in
+      let i = p .number in
+      let z = p .size in
+      let a : Arrival = plain (p .psn) z in
       let met : arrive r a ≡ judged r a Known =
-      subst (λ (q : ℕ). arrive r (plain q (p .size)) ≡ judged r (plain q (p .size)) Known) (sym (I .carried p there .psn-is)) (known-arrives (I .holds) (p .number) (p .size) size-good (past I (p .number) is e) (omega (arith, near))) in
-      subst (λ (o : Outcome Receiver). Acked w (reply (with-receiver w (left r o)) (p .number) (message (answered o))) (p .number)) (sym met)
-      (acked w r (w .accepted) (p .number) false (sackOf r a) e)
+      subst (λ (q : ℕ). arrive r (plain q z) ≡ judged r (plain q z) Known) (sym (I .carried p there .psn-is))
+      (known-arrives (I .holds) i z size-good (past I i is e) (omega (arith, near))) in
+      subst (λ (o : Outcome Receiver). Acked w (reply (with-receiver w (left r o)) i (message (answered o))) i) (sym met)
+      (acked w r (w .accepted) i false (sackOf r a) e)
   arrive-acked false e =
       let r = w .receiving in
-      let a : Arrival = plain (p .psn) (p .size) in
-      let low = at-most (I .holds .missing) (p .number) e in
+      let i = p .number in
+      let z = p .size in
+      let a : Arrival = plain (p .psn) z in
+      let low = at-most (I .holds .missing) i e in
       let met : arrive r a ≡ judged r a Fresh =
-      subst (λ (q : ℕ). arrive r (plain q (p .size)) ≡ judged r (plain q (p .size)) Fresh) (sym (I .carried p there .psn-is))
-      (plain-arrives (I .holds) (p .number) (p .size) size-good e (omega (arith, not-ahead I, room-some (s .receive-room) (s .receive-good)))) in
-      subst (λ (o : Outcome Receiver). Acked w (reply (with-receiver w (left r o)) (p .number) (message (answered o))) (p .number)) (sym met)
-      (acked w (accept r a) (p .number ∷ w .accepted) (p .number) true (sackOf (accept r a) a) (plus-same (p .number) (p .number) (among (w .accepted)) refl))
+      subst (λ (q : ℕ). arrive r (plain q z) ≡ judged r (plain q z) Fresh) (sym (I .carried p there .psn-is))
+      (plain-arrives (I .holds) i z size-good e (omega (arith, not-ahead I, room-some (s .receive-room) (s .receive-good)))) in
+      subst (λ (o : Outcome Receiver). Acked w (reply (with-receiver w (left r o)) i (message (answered o))) i) (sym met)
+      (acked w (accept r a) (i ∷ w .accepted) i true (sackOf (accept r a) a) (plus-same i i (among (w .accepted)) refl))
 
   onward : (v : World) × Onward w v
   onward =
@@ -151,8 +168,15 @@ module _ {s : Start} {w : World} (I : Inv s w) (p : Packet) (there : List·Mem�
       let run : Run w u = arrives still p there near clean in
       let J : Inv s u = inv-run I run in
       let K = arrive-acked (among (w .accepted) (p .number)) refl in
-      let H = hear-on J (K .note) (K .there) (K .accepting) (K .answer) (K .reply-is) (omega (arith, K .here-is, past J (p .number) (is ∙ sym (K .low-same)) (K .accepted), K .low-same)) in
-      (on-hear u (K .note), record { further = then run (H .further); same-packets = H .same-packets ∙ K .sent-same; moved = omega (arith, H .moved, K .low-same) })
+      let low = past J (p .number) (is ∙ sym (K .low-same)) (K .accepted) in
+      let H = hear-on J (K .note) (K .there) (K .accepting) (K .answer) (K .reply-is) (omega (arith, K .here-is, low, K .low-same)) in (
+        on-hear u (K .note),
+        record {
+          further = then run (H .further);
+          same-packets = H .same-packets ∙ K .sent-same;
+          moved = omega (arith, H .moved, K .low-same);
+        },
+      )
 
 -- ---- so on, while at most n are left
 ended : {s : Start} (w : World) → Inv s w → length (w .sent) ≤ w .low → (v : World) × Ended w v

@@ -11,13 +11,17 @@ use Rattle.rules.specs.Sender.{outstanding}
 use Rattle.rules.specs.Retire.{is-retired}
 use Rattle.rules.specs.Marks.{unmarked}
 use Rattle.rules.proofs.Unfold.{rules}
-use Rattle.delivery.specs.Network.{Start, Packet, Fate, Silent, Acks, Note, World, accepts, message, begin, with-sender, put, on-send, sizeOf, again, on-resend, on-timer, heard, on-hear, arrival, with-receiver, noted, reply, on-arrive, base-number, Readable, Run, still, sends, resends, timers, hears, arrives}
+use Rattle.delivery.specs.Network.{Start, Packet, Fate, Silent, Acks, Note, World, accepts, message, begin, with-sender, put}
+use Rattle.delivery.specs.Network.{on-send, sizeOf, again, on-resend, on-timer, heard, on-hear, arrival, with-receiver, noted}
+use Rattle.delivery.specs.Network.{reply, on-arrive, base-number, Readable, Run, still, sends, resends, timers, hears, arrives}
 use Rattle.delivery.specs.Promise.{Promise, lossless, retired-at}
 use Rattle.delivery.proofs.Theorem.{demand-3}
 
 -- all definitions of the network under one name
 unfoldable network : Unit {0}
-unfolding accepts message begin with-sender put on-send sizeOf again on-resend on-timer heard on-hear arrival with-receiver noted reply on-arrive base-number Readable
+unfolding accepts message begin
+    with-sender put on-send sizeOf again on-resend on-timer heard on-hear
+    arrival with-receiver noted reply on-arrive base-number Readable
 network = tt
 
 s : Start
@@ -89,7 +93,9 @@ w12 = on-hear (on-hear w10 (note w10 2)) (note w10 3)
 run12 : Run (begin s) w12
 unfolding rules network s whole trimmed p0 p1 p2 p3 w5 w10 note w12
 run12 =
-    let r11 : Run (begin s) (on-hear w10 (note w10 2)) = hears run10 (note w10 2) (List·Memᴰ·tail (List·Memᴰ·tail (List·Memᴰ·head refl))) (omega arith, λ j h e. omega arith) in
+    let w11 : World = on-hear w10 (note w10 2) in
+    let r11 : Run (begin s) w11 =
+    hears run10 (note w10 2) (List·Memᴰ·tail (List·Memᴰ·tail (List·Memᴰ·head refl))) (omega arith, λ j h e. omega arith) in
     hears r11 (note w10 3) (List·Memᴰ·tail (List·Memᴰ·tail (List·Memᴰ·tail (List·Memᴰ·head refl)))) (omega arith, λ j h e. omega arith)
 
 -- then the NACK of the second and the SACK of the first
@@ -127,7 +133,9 @@ run21 : Run (begin s) w21
 unfolding rules network s whole trimmed retried p0 p1 p2 p3 p4 w5 w10 note w12 w14 w17 w19 w20 w21
 run21 =
     let r20 : Run (begin s) w20 =
-    arrives run19 p0 (List·Memᴰ·tail (List·Memᴰ·tail (List·Memᴰ·tail (List·Memᴰ·tail (List·Memᴰ·tail (List·Memᴰ·tail (List·Memᴰ·head refl))))))) (omega arith) whole in
+    arrives run19 p0
+    (List·Memᴰ·tail (List·Memᴰ·tail (List·Memᴰ·tail (List·Memᴰ·tail (List·Memᴰ·tail (List·Memᴰ·tail (List·Memᴰ·head refl)))))))
+    (omega arith) whole in
     hears r20 (note w20 0) (List·Memᴰ·head refl) (omega arith, λ j h e. omega arith)
 
 -- ---- what it comes to
@@ -141,7 +149,8 @@ half-way : (w14 .low ≡ 1) × (map is-retired (w14 .sending .entries) ≡ (fals
 unfolding rules network s whole trimmed p0 p1 p2 p3 w5 w10 note w12 w14
 half-way = (refl, refl, refl, refl, refl)
 
-twice : note w20 0 .reply ≡ Acks false (record { cack = psn 2; block = record { base = psn 3; bitmap = 0 }; count = 5; mpr = 0; entropy = 7; rtx = false; mark = false })
+twice : note w20 0 .reply
+    ≡ Acks false (record { cack = psn 2; block = record { base = psn 3; bitmap = 0 }; count = 5; mpr = 0; entropy = 7; rtx = false; mark = false })
 unfolding rules network s whole trimmed retried p0 p1 p2 p3 p4 w5 w10 note w12 w14 w17 w19 w20
 twice = refl
 

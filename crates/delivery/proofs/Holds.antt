@@ -57,7 +57,9 @@ module _ {s : Start} {A : ℕ → Bool} {r : Receiver} {at : ℕ} (H : Holds s A
 
     entered-is : (o : ℕ) → getD entered o false ≡ plus (at + d) A (at + o)
     entered-is o = elim (ℕ-discrete o d) [
-      | yes e ↦ ap (λ (x : ℕ). getD entered x false) e ∙ getD-set-same (r .window) d true false (omega (arith, H .room-is)) ∙ sym (plus-same (at + d) (at + o) A (omega arith))
+      | yes e ↦
+          ap (λ (x : ℕ). getD entered x false) e ∙ getD-set-same (r .window) d true false (omega (arith, H .room-is))
+          ∙ sym (plus-same (at + d) (at + o) A (omega arith))
       | no e ↦ getD-set-other (r .window) d o true false e ∙ H .window-is o ∙ sym (plus-other (at + d) (at + o) A (omega arith))
     ]
 

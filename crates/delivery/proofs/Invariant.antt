@@ -10,7 +10,7 @@ use native.Mathlib.Nat.{mod-add-mod}
 use native.Mathlib.Decide.{ℕ-discrete, decLt}
 use lib.ListN.{length, set}
 use borrow.Author.Tests.{leb-false, not-false}
-use Rattle.rules.specs.Numbers.{after, distance, psn, size-ok, reason-ok, trimmed, trimmed-last-hop}
+use Rattle.rules.specs.Numbers.{turn, after, distance, psn, size-ok, reason-ok, trimmed, trimmed-last-hop}
 use Rattle.rules.specs.Lists.{lead, update}
 use Rattle.rules.specs.Outcome.{Outcome, Refused, refuse, left, answered}
 use Rattle.rules.specs.Receiver.{Receiver, verdict, accept, sackOf, reasonOf, nackOf, judged, arrive}
@@ -26,14 +26,18 @@ use Rattle.rules.specs.declared.Nack.{Nack}
 use Rattle.rules.specs.declared.Verdict.{Verdict}
 use Rattle.rules.specs.declared.Verdict.the-variants.{Fresh, Known, Beyond, NoBuffer, Trim, TrimLastHop}
 use Rattle.rules.proofs.Outcomes.{After, after-refuse, after-done}
-use Rattle.delivery.specs.Network.{Start, Packet, Fate, Message, Silent, Goes, Acks, Nacks, accepts, message, Note, World, begin, with-sender, put, on-send, sizeOf, again, on-resend, on-timer, heard, on-hear, arrival, with-receiver, noted, reply, on-arrive, Near, Readable, Run, still, sends, resends, timers, hears, arrives}
+use Rattle.delivery.specs.Network.{Start, Packet, Fate, Message, Silent, Goes, Acks, Nacks, accepts, message, Note, World, begin}
+use Rattle.delivery.specs.Network.{with-sender, put, on-send, sizeOf, again, on-resend, on-timer, heard, on-hear, arrival}
+use Rattle.delivery.specs.Network.{with-receiver, noted, reply, on-arrive, Near, Readable}
+use Rattle.delivery.specs.Network.{Run, still, sends, resends, timers, hears, arrives}
 use Rattle.delivery.specs.Promise.{among, Once}
 use Rattle.delivery.proofs.Rooms.{room-few}
 use Rattle.delivery.proofs.Places.{moved, stays}
 use Rattle.delivery.proofs.Sets.{not-in, at-least, plus, plus-other, plus-more}
 use Rattle.delivery.proofs.Bytes.{Sizes, total, total-plus, total-older, sizeOf-older, sizeOf-newest}
 use Rattle.delivery.proofs.Holds.{Holds, fresh-holds, accept-holds, accept-few, Newcomer, newcomer, Tells, sack-tells}
-use Rattle.delivery.proofs.Keeps.{Keeps, nth-is, Quiet, quiet-self, quiet-update, quiet-timer, quiet-nack, keeps-quiet, keeps-more, keeps-send, next-number, keeps-sack, place-moves, fresh-rests, rest-keeps}
+use Rattle.delivery.proofs.Keeps.{Keeps, nth-is, Quiet, quiet-self, quiet-update, quiet-timer, quiet-nack, keeps-quiet}
+use Rattle.delivery.proofs.Keeps.{keeps-more, keeps-send, next-number, keeps-sack, place-moves, fresh-rests, rest-keeps}
 
 -- a packet on the wire is one that was sent
 pub record Carries (s : Start) (sent : List ℕ) (p : Packet) : Type 0 where
@@ -59,7 +63,8 @@ Told s A n note (Goes p) = Unit {0}
 Told s A n note (Acks b k) = Tells s A (note .here) k
 Told s A n note (Nacks k) = Names s n (note .about) k
 
-told-more : (s : Start) (A B : ℕ → Bool) (n m : ℕ) → ((j : ℕ) → A j ≡ true → B j ≡ true) → n ≤ m → (note : Note) (q : Message) → Told s A n note q → Told s B m note q
+told-more : (s : Start) (A B : ℕ → Bool) (n m : ℕ) → ((j : ℕ) → A j ≡ true → B j ≡ true) → n ≤ m
+    → (note : Note) (q : Message) → Told s A n note q → Told s B m note q
 unfolding Told
 told-more s A B n m more h note Silent T = tt
 told-more s A B n m more h note (Goes p) T = tt
@@ -136,7 +141,8 @@ module _ {s : Start} {w : World} (I : Inv s w) where
   unfolding on-timer
   inv-timer p = inv-quiet (left (w .sending) (timer (w .sending) (psn p))) (quiet-timer (w .sending) (psn p))
 
-  inv-sack : (n : Note) (b : Bool) (k : Sack) → Tells s (among (w .accepted)) (n .here) k → Readable (w .low) n (Acks b k) → Inv s (with-sender w (left (w .sending) (sack (w .sending) (k .cack) (k .block))))
+  inv-sack : (n : Note) (b : Bool) (k : Sack) → Tells s (among (w .accepted)) (n .here) k → Readable (w .low) n (Acks b k)
+      → Inv s (with-sender w (left (w .sending) (sack (w .sending) (k .cack) (k .block))))
   unfolding sack Readable
   inv-sack n b k T R =
       let x = w .sending in
@@ -149,7 +155,8 @@ module _ {s : Start} {w : World} (I : Inv s w) where
       after-done P x _ _ (inv-sender y (rw far K)) in
       done .holds
 
-  inv-heard : (n : Note) (q : Message) → Told s (among (w .accepted)) (length (w .sent)) n q → Readable (w .low) n q → Inv s (with-sender w (heard (w .sending) q))
+  inv-heard : (n : Note) (q : Message) → Told s (among (w .accepted)) (length (w .sent)) n q → Readable (w .low) n q
+      → Inv s (with-sender w (heard (w .sending) q))
   unfolding heard Told
   inv-heard n Silent T R = inv-idle
   inv-heard n (Goes p) T R = inv-idle
@@ -216,8 +223,10 @@ module _ {s : Start} {w : World} (I : Inv s w) where
       let P : Outcome Sender → Type 0 = λ o. Inv s (put (with-sender w (left x o)) (w .sent) (again w) (message (answered o))) in
       through P _ _ _ inv-idle λ _. through P _ _ _ inv-idle λ some.
       let few : o < outstanding x = leb-false _ _ some in
+      let small : o < turn = omega (arith, I .keeps .room-left, room-few (s .send-room) (s .send-good)) in
+      let first : nth x 0 ≡ after (s .first) (w .low) = nth-is (I .keeps) 0 ∙ ap (after (s .first)) (omega arith) in
       let i-is : w .low + distance (nth x 0) (nth x o) ≡ w .low + o =
-      ap (λ (d : ℕ). w .low + d) (moved (s .first) (w .low) o _ _ (nth-is (I .keeps) 0 ∙ ap (after (s .first)) (omega arith)) (nth-is (I .keeps) o) (omega (arith, I .keeps .room-left, room-few (s .send-room) (s .send-good)))) in
+      ap (λ (d : ℕ). w .low + d) (moved (s .first) (w .low) o _ _ first (nth-is (I .keeps) o) small) in
       inv-goes y (w .sent) (again w) (nth x o)
       (rw (stays (w .low) (x .place) (y .place) (Q .place-same)) (keeps-quiet (I .keeps) y Q)) (omega arith)
       refl (I .sizes) (λ i h. refl)
@@ -271,17 +280,22 @@ module _ {s : Start} {w : World} (I : Inv s w) where
     told = λ n y. told n (List·Memᴰ·cases-cons y);
   }
     where
-      told : (n : Note) → (n ≡ record { reply = m; here = w .at + distance (w .receiving .expected) (r .expected); about = i }) ⊎ List·Memᴰ n (w .notes) → Told s (among l) (length (w .sent)) n (n .reply)
+      told : (n : Note)
+          → (n ≡ record { reply = m; here = w .at + distance (w .receiving .expected) (r .expected); about = i }) ⊎ List·Memᴰ n (w .notes)
+          → Told s (among l) (length (w .sent)) n (n .reply)
       told n (inl e) = subst (λ (y : Note). Told s (among l) (length (w .sent)) y (y .reply)) (sym e) T
       told n (inr y) = told-more s (among (w .accepted)) (among l) (length (w .sent)) (length (w .sent)) more (omega arith) n (n .reply) (I .told n y)
 
   -- nothing is accepted
   inv-same : (i : ℕ) (m : Message)
-      → Told s (among (w .accepted)) (length (w .sent)) (record { reply = m; here = w .at; about = i }) m → Inv s (noted (with-receiver w (w .receiving)) (w .accepted) i m)
+      → Told s (among (w .accepted)) (length (w .sent)) (record { reply = m; here = w .at; about = i }) m
+      → Inv s (noted (with-receiver w (w .receiving)) (w .accepted) i m)
   inv-same i m T = inv-noted (w .receiving) (w .accepted) i m (rw here-still (I .holds)) (λ j e. e) (I .bound) (I .counted) (I .once) (rw here-still T)
 
   module _ (p : Packet) (C : Carries s (w .sent) p) (near : Near (p .number) (w .at)) (f : Fate) where
-    inv-fresh : verdict (w .receiving) (arrival p f) ≡ Fresh → Inv s (noted (with-receiver w (accept (w .receiving) (arrival p f))) (p .number ∷ w .accepted) (p .number) (Acks true (sackOf (accept (w .receiving) (arrival p f)) (arrival p f))))
+    inv-fresh : verdict (w .receiving) (arrival p f) ≡ Fresh
+        → Inv s (noted (with-receiver w (accept (w .receiving) (arrival p f))) (p .number ∷ w .accepted) (p .number)
+        (Acks true (sackOf (accept (w .receiving) (arrival p f)) (arrival p f))))
     unfolding arrival Told among plus Once
     inv-fresh e =
         let i : ℕ = p .number in
@@ -292,10 +306,13 @@ module _ {s : Start} {w : World} (I : Inv s w) where
         let r′ : Receiver = accept r a in
         let k : ℕ = lead (set (r .window) d true) in
         let N : Newcomer s A r (w .at) i a = newcomer (I .holds) i a (C .psn-is) near e in
-        let H : Holds s (among (i ∷ w .accepted)) r′ (w .at + k) = subst (λ (x : ℕ). Holds s (plus x A) r′ (w .at + k)) (sym (N .unknown .number)) (accept-holds (I .holds) a (N .inside)) in
+        let H : Holds s (among (i ∷ w .accepted)) r′ (w .at + k) =
+        subst (λ (x : ℕ). Holds s (plus x A) r′ (w .at + k)) (sym (N .unknown .number)) (accept-holds (I .holds) a (N .inside)) in
+        let few : k < turn = accept-few (I .holds) a (N .inside) in
         let here : w .at + distance (r .expected) (r′ .expected) ≡ w .at + k =
-        ap (λ (x : ℕ). w .at + x) (moved (s .first) (w .at) k (r .expected) (r′ .expected) (I .holds .expected-is) (H .expected-is) (accept-few (I .holds) a (N .inside))) in
-        let size : a .size ≡ sizeOf (w .sent) i = size-whole (trimmed (f .flags)) (trimmed-last-hop (f .flags)) (f .cut) (p .size) (N .whole) (N .whole-last) ∙ C .size-is in
+        ap (λ (x : ℕ). w .at + x) (moved (s .first) (w .at) k (r .expected) (r′ .expected) (I .holds .expected-is) (H .expected-is) few) in
+        let size : a .size ≡ sizeOf (w .sent) i =
+        size-whole (trimmed (f .flags)) (trimmed-last-hop (f .flags)) (f .cut) (p .size) (N .whole) (N .whole-last) ∙ C .size-is in
         inv-noted r′ (i ∷ w .accepted) i _ (rw here H)
         (λ j q. plus-more i j A q)
         (λ j q. elim (ℕ-discrete i j) [ yes y ↦ omega (arith, C .was-sent) | no y ↦ I .bound j (sym (plus-other i j A y) ∙ q) ])

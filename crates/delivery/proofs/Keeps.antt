@@ -197,8 +197,9 @@ module _ {s : Start} {A : ℕ → Bool} {n : ℕ} {x : Sender} {low : ℕ} (K : 
       let g = up-to-cack x (k .cack .0) i h in
       let place : x .place ≡ after (s .first) (low + (turn - 1)) = K .place-is ∙ after-after (s .first) low (turn - 1) in
       let cack : k .cack .0 ≡ after (s .first) (here + (turn - 1)) = T .cack-is ∙ after-after (s .first) here (turn - 1) in
+      let few = room-few (s .send-room) (s .send-good) in
       let is : here + (turn - 1) ≡ low + (turn - 1) + c =
-      lands (s .first) (low + (turn - 1)) (here + (turn - 1)) c (ap₂ distance (sym place) (sym cack)) (omega (arith, K .room-left, room-few (s .send-room) (s .send-good))) (omega arith) in
+      lands (s .first) (low + (turn - 1)) (here + (turn - 1)) c (ap₂ distance (sym place) (sym cack)) (omega (arith, K .room-left)) (omega arith) in
       T .to-cack (low + i) (omega arith)
 
   by-bit : (i : ℕ) → i < outstanding x → has-bit (k .block) (nth x i) ≡ true → A (low + i) ≡ true
@@ -209,14 +210,17 @@ module _ {s : Start} {A : ℕ → Bool} {n : ℕ} {x : Sender} {low : ℕ} (K : 
       let d-small : d < 64 = ltb-true d 64 (g .0) in
       let b : ℕ = base-number here k in
       let nb = bits-near d d-small (g .1) in
+      let few = room-few (s .send-room) (s .send-good) in
       let is : low + i ≡ b + d =
-      lands (s .first) b (low + i) d (ap₂ distance (sym (T .base-is)) (sym (nth-is K i))) (omega (arith, nb)) (omega (arith, nb, K .room-left, room-few (s .send-room) (s .send-good))) in
+      lands (s .first) b (low + i) d (ap₂ distance (sym (T .base-is)) (sym (nth-is K i))) (omega (arith, nb)) (omega (arith, nb, K .room-left)) in
       ap A is ∙ T .bits d (g .1)
 
   row-accepted : (i : ℕ) → getD row i false ≡ true → A (low + i) ≡ true
   unfolding named
   row-accepted = retire-only f (x .entries) (λ i. A (low + i))
-      (λ i h e. or-cases (ltb i (up-to x (k .cack .0))) (has-bit (k .block) (nth x i)) (A (low + i) ≡ true) e (λ p. by-cack i (ltb-true i _ p)) (by-bit i h)) (K .ahead)
+      (λ i h e. or-cases (ltb i (up-to x (k .cack .0))) (has-bit (k .block) (nth x i)) (A (low + i) ≡ true) e
+      (λ p. by-cack i (ltb-true i _ p)) (by-bit i h))
+      (K .ahead)
 
   pub keeps-sack : Keeps s A n (after-sack x (k .cack .0) (k .block)) (low + moves x k)
   unfolding settle after-sack

@@ -69,7 +69,9 @@ module _ (s : Start) where
 
     sent-one : Keeps s (only (suc n) all) (suc n) out n
     unfolding rest
-    sent-one = keeps-more (keeps-send resting z (room-some (s .send-room) (s .send-good))) (only (suc n) all) (λ i e. below-n (suc n) i (omega (arith, below-only n i e)))
+    sent-one =
+        keeps-more (keeps-send resting z (room-some (s .send-room) (s .send-good)))
+        (only (suc n) all) (λ i e. below-n (suc n) i (omega (arith, below-only n i e)))
 
     sack-one : (k : Sack) → Tells s (only (suc n) all) (suc n) k → left out (sack out (k .cack) (k .block)) ≡ rest s (suc n)
     unfolding left
@@ -95,4 +97,5 @@ module _ (s : Start) where
   pub lossless-sender : (l : List ℕ) → Sizes l → lossless s l .0 ≡ rest s (length l)
   unfolding lossless All
   lossless-sender [] k = fresh-rests s
-  lossless-sender (z ∷ l) k = one-more (length l) z (k .0) (lossless s l .0) (lossless s l .1) (lossless-sender l (k .1)) (in-order l (k .1)) (in-order (z ∷ l) k)
+  lossless-sender (z ∷ l) k =
+      one-more (length l) z (k .0) (lossless s l .0) (lossless s l .1) (lossless-sender l (k .1)) (in-order l (k .1)) (in-order (z ∷ l) k)

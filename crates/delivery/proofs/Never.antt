@@ -35,7 +35,8 @@ never-beyond s w run p m near f e =
     let far = leb-true (room r) (distance (r .expected) (p .psn)) (g .1) in
     omega (arith, N .number, not-ahead I, I .holds .room-is, I .keeps .next-is, I .keeps .room-left, C .was-sent, s .no-larger)
 
-taken : {s : Start} {w : World} → Inv s w → (n : Note) (q : Message) → Told s (among (w .accepted)) (length (w .sent)) n q → Readable (w .low) n q → Taken (w .sending) q
+taken : {s : Start} {w : World} → Inv s w → (n : Note) (q : Message) → Told s (among (w .accepted)) (length (w .sent)) n q
+    → Readable (w .low) n q → Taken (w .sending) q
 unfolding Told Readable Taken
 taken I n Silent T R = tt
 taken I n (Goes p) T R = tt

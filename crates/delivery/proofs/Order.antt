@@ -39,7 +39,8 @@ unique {s} {A} {r} {q} {a} {b} H G count =
     λ i. record { expected = expected i; window = window i; count = count i }
 
 -- ---- a packet that is new and in the window is accepted
-module _ {s : Start} {A : ℕ → Bool} {r : Receiver} {at : ℕ} (H : Holds s A r at) (i z : ℕ) (good : size-ok z ≡ true) (new : A i ≡ false) (reach : i < at + s .receive-room) where
+module _ {s : Start} {A : ℕ → Bool} {r : Receiver} {at : ℕ} (H : Holds s A r at)
+    (i z : ℕ) (good : size-ok z ≡ true) (new : A i ≡ false) (reach : i < at + s .receive-room) where
   way : distance (r .expected) (after (s .first) i) ≡ i - at
   way = let low = at-most (H .missing) i new in
       ap (λ (p : ℕ). distance p (after (s .first) i)) (H .expected-is) ∙ ahead (s .first) at i low (omega (arith, room-few (s .receive-room) (s .receive-good)))
@@ -50,20 +51,25 @@ module _ {s : Start} {A : ℕ → Bool} {r : Receiver} {at : ℕ} (H : Holds s A
       let d : ℕ = distance (r .expected) (after (s .first) i) in
       let d-is : d ≡ i - at = way in
       let low = at-most (H .missing) i new in
-      rw (lt-leb half d (omega (arith, room-few (s .receive-room) (s .receive-good))), H .window-is d ∙ ap A (omega arith) ∙ new, lt-leb (room r) d (omega (arith, H .room-is)))
+      let few = room-few (s .receive-room) (s .receive-good) in
+      rw (lt-leb half d (omega arith), H .window-is d ∙ ap A (omega arith) ∙ new, lt-leb (room r) d (omega (arith, H .room-is)))
 
   pub plain-arrives : arrive r (plain (after (s .first) i) z) ≡ judged r (plain (after (s .first) i) z) Fresh
   unfolding arrive plain bitAt flags-ok refuse
-  plain-arrives = rw (receiver-used H, lt-ltb (after (s .first) i) turn (after-lt (s .first) i), good) (ap (judged r (plain (after (s .first) i) z)) plain-fresh)
+  plain-arrives =
+      rw (receiver-used H, lt-ltb (after (s .first) i) turn (after-lt (s .first) i), good)
+      (ap (judged r (plain (after (s .first) i) z)) plain-fresh)
 
-  plain-holds : (b : ℕ) × Holds s (plus i A) (accept r (plain (after (s .first) i) z)) b × (accept r (plain (after (s .first) i) z) .count ≡ (r .count + z) % 2 ^ 32)
+  plain-holds : (b : ℕ) × Holds s (plus i A) (accept r (plain (after (s .first) i) z)) b
+      × (accept r (plain (after (s .first) i) z) .count ≡ (r .count + z) % 2 ^ 32)
   unfolding plain accept
   plain-holds =
       let d : ℕ = distance (r .expected) (after (s .first) i) in
       let d-is : d ≡ i - at = way in
       let low = at-most (H .missing) i new in
       let b : ℕ = at + lead (set (r .window) d true) in
-      (b, subst (λ (x : ℕ). Holds s (plus x A) (accept r (plain (after (s .first) i) z)) b) (omega arith) (accept-holds H (plain (after (s .first) i) z) (omega arith)), refl)
+      let a = plain (after (s .first) i) z in
+      (b, subst (λ (x : ℕ). Holds s (plus x A) (accept r a) b) (omega arith) (accept-holds H a (omega arith)), refl)
 
 -- ---- the receiver after those in A came in ascending order, where none lies a room past one that is missing
 module _ (s : Start) (A : ℕ → Bool) (reach : (n b : ℕ) → A n ≡ true → only n A b ≡ false → n < b + s .receive-room) where
@@ -84,7 +90,8 @@ module _ (s : Start) (A : ℕ → Bool) (reach : (n b : ℕ) → A n ≡ true �
       (record {
         at = J .0;
         holds = holds-same (λ j. only-plus n A j a) (J .1);
-        counted = J .2 ∙ ap (λ (x : ℕ). (x + z) % 2 ^ 32) (U .counted) ∙ mod-add-mod (total A l) (2 ^ 32) z ∙ ap (λ (b : Bool). (total A l + cond b z 0) % 2 ^ 32) (sym a);
+        counted = J .2 ∙ ap (λ (x : ℕ). (x + z) % 2 ^ 32) (U .counted) ∙ mod-add-mod (total A l) (2 ^ 32) z
+            ∙ ap (λ (b : Bool). (total A l + cond b z 0) % 2 ^ 32) (sym a);
       })
   came-next z l good r U false a = record {
     at = U .at;
@@ -110,8 +117,10 @@ module _ {s : Start} {A : ℕ → Bool} {r : Receiver} {at : ℕ} (H : Holds s A
   reached : (n b : ℕ) → A n ≡ true → only n A b ≡ false → n < b + s .receive-room
   reached n b a out = elim (decLt b at) [
     | no p ↦ omega (arith, in-window n a)
-    | yes p ↦ elim (decLt b n)
-        [ yes q ↦ absurd (false≢true (sym out ∙ only-in n A b q ∙ H .missing .below b p)) | no q ↦ omega (arith, room-some (s .receive-room) (s .receive-good)) ]
+    | yes p ↦ elim (decLt b n) [
+      | yes q ↦ absurd (false≢true (sym out ∙ only-in n A b q ∙ H .missing .below b p))
+      | no q ↦ omega (arith, room-some (s .receive-room) (s .receive-good))
+    ]
   ]
 
   below-all : (l : List ℕ) → ((i : ℕ) → A i ≡ true → i < length l) → (j : ℕ) → only (length l) A j ≡ A j

@@ -79,21 +79,28 @@ module _ {s : Start} {A : ℕ → Bool} {n : ℕ} {x : Sender} {low : ℕ} (K : 
     cack-at = T .cack-is ∙ after-after (s .first) here (turn - 1)
 
     module _ (near : Near here low) (bits-near : (j : ℕ) → j < 64 → bitAt (k .block .bitmap) j ≡ true → Near (base-number here k + j + 1) low) where
+      abbrev c : ℕ
+      c = distance (x .place) (k .cack .0)
+
+      cack-ahead : low ≤ here → c ≡ here + (turn - 1) - (low + (turn - 1))
+      cack-ahead h = ap₂ distance place-at cack-at ∙ ahead (s .first) (low + (turn - 1)) (here + (turn - 1)) (omega arith) (omega arith)
+
       cack-sent : unsent-cack x (k .cack .0) ≡ false
       unfolding unsent-cack
       cack-sent = elim (decLt here low) [
-        | no p ↦
-            let d : distance (x .place) (k .cack .0) ≡ here + (turn - 1) - (low + (turn - 1)) = ap₂ distance place-at cack-at ∙ ahead (s .first) (low + (turn - 1)) (here + (turn - 1)) (omega arith) (omega arith) in
-            rw (le-ltb (outstanding x) (distance (x .place) (k .cack .0)) (omega (arith, K .next-is, here-sent)))
+        | no p ↦ rw (le-ltb (outstanding x) c (omega (arith, cack-ahead (omega arith), K .next-is, here-sent)))
         | yes p ↦
-            let d : distance (x .place) (k .cack .0) ≡ turn + (here + (turn - 1)) - (low + (turn - 1)) = ap₂ distance place-at cack-at ∙ back (s .first) (low + (turn - 1)) (here + (turn - 1)) (omega arith) (omega arith) in
-            rw (le-leb half (distance (x .place) (k .cack .0)) (omega arith)) (and-false (ltb (outstanding x) (distance (x .place) (k .cack .0))))
+            let far : c ≡ turn + (here + (turn - 1)) - (low + (turn - 1)) =
+            ap₂ distance place-at cack-at ∙ back (s .first) (low + (turn - 1)) (here + (turn - 1)) (omega arith) (omega arith) in
+            rw (le-leb half c (omega arith)) (and-false (ltb (outstanding x) c))
       ]
 
       bit-sent : (j : ℕ) → j < 64 → bitAt (k .block .bitmap) j ≡ true → unsent x (after (k .block .base .0) j) ≡ false
       bit-sent j h e =
-          let is : after (k .block .base .0) j ≡ after (s .first) (base-number here k + j) = ap (λ (p : ℕ). after p j) (T .base-is) ∙ after-after (s .first) (base-number here k) j in
-          was-sent (base-number here k + j) (after (k .block .base .0) j) is (bound _ (T .bits j e)) (bits-near j h e)
+          let b : ℕ = base-number here k in
+          let p : ℕ = after (k .block .base .0) j in
+          let is : p ≡ after (s .first) (b + j) = ap (λ (q : ℕ). after q j) (T .base-is) ∙ after-after (s .first) b j in
+          was-sent (b + j) p is (bound _ (T .bits j e)) (bits-near j h e)
 
       all-sent : names-unsent x (k .cack .0) (k .block) ≡ false
       unfolding names-unsent unsent-bit
@@ -106,8 +113,7 @@ module _ {s : Start} {A : ℕ → Bool} {n : ℕ} {x : Sender} {low : ℕ} (K : 
       pub sack-moves : low < here → 0 < moves x k
       unfolding named up-to
       sack-moves h =
-          let c : ℕ = distance (x .place) (k .cack .0) in
-          let d : c ≡ here + (turn - 1) - (low + (turn - 1)) = ap₂ distance place-at cack-at ∙ ahead (s .first) (low + (turn - 1)) (here + (turn - 1)) (omega arith) (omega arith) in
+          let far = cack-ahead (omega arith) in
           retire-first (named x (k .cack .0) (k .block)) (x .entries) (omega (arith, K .next-is, here-sent))
           (rw (le-leb c (outstanding x) (omega (arith, K .next-is, here-sent)), lt-ltb 0 c (omega arith)))
 

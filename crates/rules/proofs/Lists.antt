@@ -1,4 +1,5 @@
--- Laws of the rules' words for lists. Assumes nothing.
+-- Laws of the rules' words for lists, by induction on the list: where the leading trues end, what stands in a list that is slid, and what
+-- an update, a set or a drop keeps. Assumes nothing.
 use mathlib.Core.Path.{_≡_, refl, sym, ap, _∙_}
 use mathlib.Core.Bool.{Bool, true, false, _||_, or-true, false≢true}
 use mathlib.Core.List.{List, [], _∷_, _++_, map}
