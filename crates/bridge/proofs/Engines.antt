@@ -44,9 +44,9 @@ play s (begins x r a b m n) =
 play s (sends {w = w} {x = x} {r = r} p z a y m) =
     let K = play s p in
     let packet : ℕ → Packet = λ n. record { number = length (w .sent); psn = n; size = z } in
-    let step : rule-sender.Sender → Outcome rule-sender.Sender = λ u. rule-sender.send u z in
-    let next = record-of x y (w .sending) step a (K .sending-is) m in
-    let told = answer-of x y (w .sending) step a (K .sending-is) m in
+    let law : rule-sender.Sender → Outcome rule-sender.Sender = λ u. rule-sender.send u z in
+    let next = record-of x y (w .sending) law a (K .sending-is) m in
+    let told = answer-of x y (w .sending) law a (K .sending-is) m in
     let same : put (with-sender w (sender.meaning y)) (z ∷ w .sent) packet (message a) ≡ on-send w z =
     ap₂ (λ (u : rule-sender.Sender) (b : Answer). put (with-sender w u) (z ∷ w .sent) packet (message b)) next told in
     kept s _ y r (subst (Run (begin s)) (sym same) (network.sends (K .run) z))
@@ -73,9 +73,9 @@ play s (hears {w = w} {x = x} {r = r} p n i d y h) =
     kept s _ y r (subst (Run (begin s)) (sym same) (network.hears (K .run) n i d)) refl (K .receiving-is)
 play s (arrives {w = w} {x = x} {r = r} p k i d f a q m) =
     let K = play s p in
-    let step : rule-receiver.Receiver → Outcome rule-receiver.Receiver = λ u. rule-receiver.arrive u (arrival k f) in
-    let next = record-of r q (w .receiving) step a (K .receiving-is) m in
-    let told = answer-of r q (w .receiving) step a (K .receiving-is) m in
+    let law : rule-receiver.Receiver → Outcome rule-receiver.Receiver = λ u. rule-receiver.arrive u (arrival k f) in
+    let next = record-of r q (w .receiving) law a (K .receiving-is) m in
+    let told = answer-of r q (w .receiving) law a (K .receiving-is) m in
     let same : reply (with-receiver w (receiver.meaning q)) (k .number) (message a) ≡ on-arrive w k f =
     ap₂ (λ (u : rule-receiver.Receiver) (b : Answer). reply (with-receiver w u) (k .number) (message b)) next told in
     kept s _ x q (subst (Run (begin s)) (sym same) (network.arrives (K .run) k i d f))

@@ -25,7 +25,6 @@ use Rattle.rules.proofs.Runs.{inside}
 use Rattle.psn.specs.declared.Psn.{Psn}
 use Rattle.connection.specs.declared.Connection.{Connection}
 use Rattle.connection.specs.Record as connection
-use Rattle.sender.specs.Record as sender
 use Rattle.table.specs.Slots.{meaning}
 use Rattle.table.proofs.Slots.{at-means}
 use Rattle.delivery.specs.Network.{Start}

@@ -35,30 +35,30 @@ module _ (t : List Connection) (slot : ℕ) (e : Event) (here : outside t slot �
   goes-record = ap (λ (o : Outcome (List Connection)). at (left t o) slot) goes ∙ at-left t slot (step (at t slot) e) (inside t slot here)
 
   -- of the sending side
-  module _ (rule : rule-sender.Sender → Outcome rule-sender.Sender)
-      (is : step (at t slot) e ≡ within (with-sender (at t slot)) (rule (at t slot .sender))) where
-    pub sender-answer : answered (on t slot e) ≡ answered (rule (at t slot .sender))
-    sender-answer = goes-answer ∙ ap answered is ∙ answered-within (with-sender (at t slot)) (rule (at t slot .sender))
+  module _ (law : rule-sender.Sender → Outcome rule-sender.Sender)
+      (is : step (at t slot) e ≡ within (with-sender (at t slot)) (law (at t slot .sender))) where
+    pub sender-answer : answered (on t slot e) ≡ answered (law (at t slot .sender))
+    sender-answer = goes-answer ∙ ap answered is ∙ answered-within (with-sender (at t slot)) (law (at t slot .sender))
 
-    sender-record : at (left t (on t slot e)) slot ≡ with-sender (at t slot) (left (at t slot .sender) (rule (at t slot .sender)))
-    sender-record = goes-record ∙ ap (left (at t slot)) is ∙ left-within (with-sender (at t slot)) (at t slot .sender) (rule (at t slot .sender))
+    sender-record : at (left t (on t slot e)) slot ≡ with-sender (at t slot) (left (at t slot .sender) (law (at t slot .sender)))
+    sender-record = goes-record ∙ ap (left (at t slot)) is ∙ left-within (with-sender (at t slot)) (at t slot .sender) (law (at t slot .sender))
 
-    pub sender-next : at (left t (on t slot e)) slot .sender ≡ left (at t slot .sender) (rule (at t slot .sender))
+    pub sender-next : at (left t (on t slot e)) slot .sender ≡ left (at t slot .sender) (law (at t slot .sender))
     sender-next = ap (λ (c : Connection). c .sender) sender-record
 
     pub receiver-same : at (left t (on t slot e)) slot .receiver ≡ at t slot .receiver
     receiver-same = ap (λ (c : Connection). c .receiver) sender-record
 
   -- of the receiving side
-  module _ (rule : rule-receiver.Receiver → Outcome rule-receiver.Receiver)
-      (is : step (at t slot) e ≡ within (with-receiver (at t slot)) (rule (at t slot .receiver))) where
-    pub receiver-answer : answered (on t slot e) ≡ answered (rule (at t slot .receiver))
-    receiver-answer = goes-answer ∙ ap answered is ∙ answered-within (with-receiver (at t slot)) (rule (at t slot .receiver))
+  module _ (law : rule-receiver.Receiver → Outcome rule-receiver.Receiver)
+      (is : step (at t slot) e ≡ within (with-receiver (at t slot)) (law (at t slot .receiver))) where
+    pub receiver-answer : answered (on t slot e) ≡ answered (law (at t slot .receiver))
+    receiver-answer = goes-answer ∙ ap answered is ∙ answered-within (with-receiver (at t slot)) (law (at t slot .receiver))
 
-    receiver-record : at (left t (on t slot e)) slot ≡ with-receiver (at t slot) (left (at t slot .receiver) (rule (at t slot .receiver)))
-    receiver-record = goes-record ∙ ap (left (at t slot)) is ∙ left-within (with-receiver (at t slot)) (at t slot .receiver) (rule (at t slot .receiver))
+    receiver-record : at (left t (on t slot e)) slot ≡ with-receiver (at t slot) (left (at t slot .receiver) (law (at t slot .receiver)))
+    receiver-record = goes-record ∙ ap (left (at t slot)) is ∙ left-within (with-receiver (at t slot)) (at t slot .receiver) (law (at t slot .receiver))
 
-    pub receiver-next : at (left t (on t slot e)) slot .receiver ≡ left (at t slot .receiver) (rule (at t slot .receiver))
+    pub receiver-next : at (left t (on t slot e)) slot .receiver ≡ left (at t slot .receiver) (law (at t slot .receiver))
     receiver-next = ap (λ (c : Connection). c .receiver) receiver-record
 
     pub sender-same : at (left t (on t slot e)) slot .sender ≡ at t slot .sender

@@ -11,13 +11,12 @@ use Rattle.rules.specs.Receiver as rule-receiver
 use Rattle.rules.specs.Sender as rule-sender
 use Rattle.rules.specs.Retire.{sack}
 use Rattle.rules.specs.Marks.{nack, timer, resend}
-use Rattle.rules.specs.Connection.{with-sender, with-receiver, step}
+use Rattle.rules.specs.Connection.{step}
 use Rattle.rules.specs.Connection as rule
 use Rattle.rules.specs.Table.{at, outside, is-start}
 use Rattle.rules.specs.declared.Answer.{Answer}
 use Rattle.rules.specs.declared.Answer.the-variants as answer
 use Rattle.connection.specs.declared.Connection.{Connection}
-use Rattle.sender.specs.Record as sender
 use Rattle.table.specs.Slots.{meaning}
 use Rattle.delivery.specs.Network.{Start, Packet, Message, Silent, Goes, Acks, Nacks, message, heard, World, begin, put, again}
 use Rattle.delivery.specs.Network.{arrival, reply, on-send, on-resend, on-timer, on-hear, on-arrive, Run}

@@ -38,10 +38,10 @@ reply-receiving w i (Acks b k) = refl
 reply-receiving w i (Nacks k) = refl
 
 -- what a promise gives: the rule's own answer and next record, also where the record means another that is equal
-module _ {R S : Type 0} {Sound : R → Type 0} {meaning : R → S} (x y : R) (s : S) (rule : S → Outcome S) (a : Answer)
-    (same : meaning x ≡ s) (m : Meets Sound meaning x (rule (meaning x)) a y) where
-  pub answer-of : a ≡ answered (rule s)
-  answer-of = answers-apart a (answered (rule (meaning x))) (m .answer-is) ∙ ap (λ t. answered (rule t)) same
+module _ {R S : Type 0} {Sound : R → Type 0} {meaning : R → S} (x y : R) (s : S) (law : S → Outcome S) (a : Answer)
+    (same : meaning x ≡ s) (m : Meets Sound meaning x (law (meaning x)) a y) where
+  pub answer-of : a ≡ answered (law s)
+  answer-of = answers-apart a (answered (law (meaning x))) (m .answer-is) ∙ ap (λ t. answered (law t)) same
 
-  pub record-of : meaning y ≡ left s (rule s)
-  record-of = m .record-is ∙ ap (λ t. left t (rule t)) same
+  pub record-of : meaning y ≡ left s (law s)
+  record-of = m .record-is ∙ ap (λ t. left t (law t)) same

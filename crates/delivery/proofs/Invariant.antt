@@ -12,7 +12,7 @@ use lib.ListN.{length, set}
 use borrow.Author.Tests.{leb-false, not-false}
 use Rattle.rules.specs.Numbers.{turn, after, distance, psn, size-ok, reason-ok, trimmed, trimmed-last-hop}
 use Rattle.rules.specs.Lists.{lead, update}
-use Rattle.rules.specs.Outcome.{Outcome, Refused, refuse, left, answered}
+use Rattle.rules.specs.Outcome.{Outcome, left, answered}
 use Rattle.rules.specs.Receiver.{Receiver, verdict, accept, sackOf, reasonOf, nackOf, judged, arrive}
 use Rattle.rules.specs.Receiver as receiver
 use Rattle.rules.specs.Sender.{Sender, outstanding, nth, next, with-entries, new, send}
@@ -25,7 +25,8 @@ use Rattle.rules.specs.declared.Sack.{Sack}
 use Rattle.rules.specs.declared.Nack.{Nack}
 use Rattle.rules.specs.declared.Verdict.{Verdict}
 use Rattle.rules.specs.declared.Verdict.the-variants.{Fresh, Known, Beyond, NoBuffer, Trim, TrimLastHop}
-use Rattle.rules.proofs.Outcomes.{After, after-refuse, after-done}
+use Rattle.rules.proofs.Joined.{not-true}
+use Rattle.rules.proofs.Outcomes.{through, After, after-refuse, after-done}
 use Rattle.delivery.specs.Network.{Start, Packet, Fate, Message, Silent, Goes, Acks, Nacks, accepts, message, Note, World, begin}
 use Rattle.delivery.specs.Network.{with-sender, put, on-send, sizeOf, again, on-resend, on-timer, heard, on-hear, arrival}
 use Rattle.delivery.specs.Network.{with-receiver, noted, reply, on-arrive, Near, Readable}
@@ -33,7 +34,7 @@ use Rattle.delivery.specs.Network.{Run, still, sends, resends, timers, h
 use Rattle.delivery.specs.Promise.{among, Once}
 use Rattle.delivery.proofs.Rooms.{room-few}
 use Rattle.delivery.proofs.Places.{moved, stays}
-use Rattle.delivery.proofs.Sets.{not-in, at-least, plus, plus-other, plus-more}
+use Rattle.delivery.proofs.Sets.{at-least, plus, plus-other, plus-more}
 use Rattle.delivery.proofs.Bytes.{Sizes, total, total-plus, total-older, sizeOf-older, sizeOf-newest}
 use Rattle.delivery.proofs.Holds.{Holds, fresh-holds, accept-holds, accept-few, Newcomer, newcomer, Tells, sack-tells}
 use Rattle.delivery.proofs.Keeps.{Keeps, nth-is, Quiet, quiet-self, quiet-update, quiet-timer, quiet-nack, keeps-quiet}
@@ -101,16 +102,10 @@ inv-begin s = record {
   told = λ n m. absurd (List·Memᴰ·not-nil m);
 }
 
--- a property of an outcome, through a test
-through : {S : Type 0} (P : Outcome S → Type 0) (b : Bool) (n : ℕ) (o : Outcome S) → P (Refused n) → (b ≡ false → P o) → P (refuse b n o)
-unfolding refuse
-through P true n o p h = p
-through P false n o p h = h refl
-
 module _ {s : Start} {w : World} (I : Inv s w) where
   -- the next packet is not accepted
   pub not-yet : among (w .accepted) (length (w .sent)) ≡ false
-  not-yet = not-in _ (λ e. let q = I .bound (length (w .sent)) e in omega arith)
+  not-yet = not-true _ (λ e. let q = I .bound (length (w .sent)) e in omega arith)
 
   -- the sender's place is not ahead of the receiver's
   pub not-ahead : w .low ≤ w .at

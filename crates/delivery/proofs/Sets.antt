@@ -1,5 +1,5 @@
 -- Sets of packet numbers: one more in a set, and those of a set below a number. Assumes nothing.
-use mathlib.Core.Path.{_≡_, refl, sym, ap, _∙_}
+use mathlib.Core.Path.{_≡_, sym, ap, _∙_}
 use mathlib.Core.Bool.{Bool, true, false, _&&_, _||_, false≢true, or-true}
 use mathlib.Core.Logic.{_≢_}
 use Prim.Native.Nat.{ℕ, suc, _≤_, _<_}
@@ -7,10 +7,6 @@ use native.Mathlib.Omega.{arith}
 use native.Mathlib.Decide.{ℕ-discrete, decLt}
 use lib.Dec.{ltb, eqb}
 use borrow.Author.Tests.{eq-eqb, ne-eqb, lt-ltb, le-ltb}
-
-pub not-in : (b : Bool) → (b ≡ true → ⊥) → b ≡ false
-not-in true h = absurd (h refl)
-not-in false h = refl
 
 unfoldable pub all : ℕ → Bool
 all j = true

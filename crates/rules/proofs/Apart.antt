@@ -19,8 +19,8 @@ use Rattle.rules.specs.declared.Written.{Written}
 use Rattle.rules.specs.declared.Written.the-variants as writing
 use Rattle.rules.proofs.EventKinds.{event-again}
 
--- where each case can be had back, two with one line are one
-apart : {A : Type 0} (line : A → Line) (back : Line → A) → ((x : A) → back (line x) ≡ x) → (x y : A) → line x ≡ line y → x ≡ y
+-- where each case can be had back from its line, or from its number, two with the same are one
+apart : {A B : Type 0} (line : A → B) (back : B → A) → ((x : A) → back (line x) ≡ x) → (x y : A) → line x ≡ line y → x ≡ y
 apart line back same x y h = sym (same x) ∙ ap back h ∙ same y
 
 digit-back : (b : Bool) → eqb (digit b) 1 ≡ b
@@ -40,7 +40,7 @@ verdict-back Trim = refl
 verdict-back TrimLastHop = refl
 
 pub code-apart : (v w : Verdict) → code v ≡ code w → v ≡ w
-code-apart v w h = sym (verdict-back v) ∙ ap verdictOf h ∙ verdict-back w
+code-apart = apart code verdictOf verdict-back
 
 -- ---- answers to events
 acked : Line → Answer

@@ -1,6 +1,7 @@
--- What two tests joined tell of each, by the cases of the first. Assumes nothing.
+-- What a test's outcome tells: of each of two tests joined, of a choice's other side, of a test that cannot pass. By the cases of the
+-- test. Assumes nothing.
 use mathlib.Core.Path.{_≡_, refl}
-use mathlib.Core.Bool.{Bool, true, false, _&&_, _||_}
+use mathlib.Core.Bool.{Bool, true, false, cond, _&&_, _||_}
 
 pub and-true-each : (a b : Bool) → (a && b) ≡ true → (a ≡ true) × (b ≡ true)
 and-true-each true b e = (refl, e)
@@ -9,3 +10,12 @@ and-true-each false b e = (e, cc)
 pub or-false-each : (a b : Bool) → (a || b) ≡ false → (a ≡ false) × (b ≡ false)
 or-false-each false b e = (refl, e)
 or-false-each true b e = (e, cc)
+
+pub not-true : (b : Bool) → (b ≡ true → ⊥) → b ≡ false
+not-true true h = absurd (h refl)
+not-true false h = refl
+
+-- a choice that is not its first side is its second
+pub passed : {A : Type 0} {a o z : A} (b : Bool) → (a ≡ z → ⊥) → cond b a o ≡ z → (b ≡ false) × (o ≡ z)
+passed true other h = absurd (other h)
+passed false other h = (refl, h)

@@ -31,12 +31,6 @@ lead-le [] = omega arith
 lead-le (false ∷ l) = omega arith
 lead-le (true ∷ l) = omega (arith, lead-le l)
 
-pub lead-zero : (l : List Bool) → getD l 0 false ≡ false → lead l ≡ 0
-unfolding lead
-lead-zero [] h = refl
-lead-zero (false ∷ l) h = refl
-lead-zero (true ∷ l) h = absurd (false≢true (sym h))
-
 -- ---- slide
 pub getD-alike : {A : Type 0} (a : A) (m i : ℕ) → getD (replicate m a) i a ≡ a
 getD-alike a zero i = refl

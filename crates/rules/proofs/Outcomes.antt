@@ -26,6 +26,12 @@ unfolding refuse within
 refuse-within whole true n o = refl
 refuse-within whole false n o = refl
 
+-- a property of an outcome, through a test
+pub through : {S : Type 0} (P : Outcome S → Type 0) (b : Bool) (n : ℕ) (o : Outcome S) → P (Refused n) → (b ≡ false → P o) → P (refuse b n o)
+unfolding refuse
+through P true n o p h = p
+through P false n o p h = h refl
+
 -- an invariant of a record holds after an event on x
 pub record After {S : Type 0} (P : S → Type 0) (x : S) (o : Outcome S) : Type 0 where
   pub holds : P (left x o)
@@ -33,9 +39,8 @@ pub record After {S : Type 0} (P : S → Type 0) (x : S) (o : Outcome S) : Type 
 -- it does where the rule refuses, or does what keeps it
 module _ {S : Type 0} (P : S → Type 0) (x : S) where
   pub after-refuse : (b : Bool) (n : ℕ) (o : Outcome S) → P x → (b ≡ false → After P x o) → After P x (refuse b n o)
-  unfolding left refuse
-  after-refuse true n o p h = record { holds = p }
-  after-refuse false n o p h = h refl
+  unfolding left
+  after-refuse b n o p h = through (After P x) b n o (record { holds = p }) h
 
   pub after-cond : (b : Bool) (o q : Outcome S) → (b ≡ true → After P x o) → (b ≡ false → After P x q) → After P x (cond b o q)
   after-cond true o q h k = h refl

@@ -1,6 +1,6 @@
 -- A record is read exactly where a log not too long holds one, by the tests one after the other. Assumes nothing.
 use mathlib.Core.Path.{_≡_, refl, ap, _∙_}
-use mathlib.Core.Bool.{Bool, true, false, not, cond}
+use mathlib.Core.Bool.{true, not}
 use mathlib.Core.List.{List, [], _∷_}
 use Prim.Native.Nat.{ℕ, _+_, _-_, _≤_}
 use native.Mathlib.Omega.{arith}
@@ -10,9 +10,8 @@ use lib.ListN.{length, getD, drop, length-drop}
 use Rattle.rules.specs.Numbers.{longest-log}
 use Rattle.rules.specs.Log.{widths, kind-ok, whole, number-all, eventOf, has-mark, read-left, read}
 use Rattle.rules.specs.declared.Event.{Event}
-use Rattle.rules.specs.declared.Read.{Read}
 use Rattle.rules.specs.declared.Read.the-variants.{Record, Nothing}
-use Rattle.rules.proofs.Joined.{and-true-each}
+use Rattle.rules.proofs.Joined.{and-true-each, passed}
 use Rattle.rules.proofs.Records.{Begins}
 
 -- the log has the record of an event at the place
@@ -21,11 +20,8 @@ pub record Holds (log : List ℕ) (place slot : ℕ) (e : Event) (kind next : �
   pub begins : Begins (drop place log) slot e kind
   pub next-is : next ≡ place + whole kind
 
--- a test before a record was false
-passed : {o : Read} {slot : ℕ} {e : Event} {kind next : ℕ} (t : Bool) (n : ℕ) → cond t (Nothing n) o ≡ Record slot e kind next
-    → (t ≡ false) × (o ≡ Record slot e kind next)
-passed true n h = let z : _≡_ {A = ℕ} 0 1 = cc in absurd (omega arith)
-passed false n h = (refl, h)
+no-record : (n slot : ℕ) (e : Event) (kind next : ℕ) → Nothing n ≡ Record slot e kind next → ⊥
+no-record n slot e kind next h = let z : _≡_ {A = ℕ} 0 1 = cc in omega arith
 
 four : (l : List ℕ) → 4 ≤ length l → l ≡ getD l 0 0 ∷ getD l 1 0 ∷ getD l 2 0 ∷ getD l 3 0 ∷ drop 4 l
 four [] h = absurd (omega arith)
@@ -39,10 +35,10 @@ left-begins : (l : List ℕ) (place slot : ℕ) (e : Event) (kind next : ℕ) �
 unfolding read-left
 left-begins l place slot e kind next h =
     let k = getD l 2 0 in
-    let a = passed (ltb (length l) 3) 10 h in
-    let b = passed (not (has-mark l)) 11 (a .1) in
-    let c = passed (not (kind-ok k)) 12 (b .1) in
-    let d = passed (ltb (length l) (whole k)) 10 (c .1) in
+    let a = passed (ltb (length l) 3) (no-record 10 slot e kind next) h in
+    let b = passed (not (has-mark l)) (no-record 11 slot e kind next) (a .1) in
+    let c = passed (not (kind-ok k)) (no-record 12 slot e kind next) (b .1) in
+    let d = passed (ltb (length l) (whole k)) (no-record 10 slot e kind next) (c .1) in
     let room : whole k ≤ length l = ltb-false (length l) (whole k) (d .0) in
     let mark = and-true-each (eqb (getD l 0 0) 0x4D) (eqb (getD l 1 0) 0x52) (not-false (has-mark l) (b .0)) in
     let first : getD l 0 0 ≡ 0x4D = eqb-true (getD l 0 0) 0x4D (mark .0) in
@@ -62,8 +58,8 @@ left-begins l place slot e kind next h =
 pub read-holds : (log : List ℕ) (place slot : ℕ) (e : Event) (kind next : ℕ) → read log place ≡ Record slot e kind next → Holds log place slot e kind next
 unfolding read
 read-holds log place slot e kind next h =
-    let a = passed (ltb longest-log (length log)) 13 h in
-    let b = passed (leb (length log) place) 0 (a .1) in
+    let a = passed (ltb longest-log (length log)) (no-record 13 slot e kind next) h in
+    let b = passed (leb (length log) place) (no-record 0 slot e kind next) (a .1) in
     let c = left-begins (drop place log) place slot e kind next (b .1) in
     record { short = ltb-false longest-log (length log) (a .0); begins = c .0; next-is = c .1 }
 
