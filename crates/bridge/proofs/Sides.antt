@@ -19,7 +19,6 @@ use Rattle.rules.specs.declared.Answer.{Answer}
 use Rattle.rules.specs.declared.Answer.the-variants as answer
 use Rattle.rules.specs.declared.Event.{Event}
 use Rattle.rules.specs.declared.Event.the-variants as event
-use Rattle.rules.proofs.Apart.{answers-apart}
 use Rattle.rules.proofs.Outcomes.{answered-within}
 use Rattle.rules.proofs.Runs.{inside}
 use Rattle.psn.specs.declared.Psn.{Psn}
@@ -29,6 +28,7 @@ use Rattle.table.specs.Slots.{meaning}
 use Rattle.table.proofs.Slots.{at-means}
 use Rattle.delivery.specs.Network.{Start}
 use Rattle.bridge.specs.Tables.{On, sending-in, receiving-in, Receiving, arrival-of, Sending, send-of, sack-of, nack-of, timer-of, resend-of}
+use Rattle.bridge.proofs.Worlds.{answer-of}
 use Rattle.bridge.proofs.Slots.{at-left, sender-answer, sender-next, receiver-same, receiver-answer, receiver-next, sender-same, still-here, at-other}
 
 -- ---- a table as the rules see it
@@ -42,7 +42,7 @@ receiving-at t i = ap (λ (c : rule.Connection). c .receiver) (at-means t i)
 
 -- what a promise gives
 pub said : (t t′ : List Connection) (slot : ℕ) (e : Event) (a : Answer) → On t slot e a t′ → a ≡ answered (on (meaning t) slot e)
-said t t′ slot e a m = answers-apart a (answered (on (meaning t) slot e)) (m .answer-is)
+said t t′ slot e a m = answer-of t t′ (meaning t) (λ l. on l slot e) a refl m
 
 -- a slot of the table stays one
 pub stays : (t t′ : List Connection) (slot : ℕ) (e : Event) (a : Answer) (i : ℕ) → On t slot e a t′
