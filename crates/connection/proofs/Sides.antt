@@ -61,14 +61,16 @@ pub sender-in-use : (x y : Sender) (o : Outcome rule-sender.Sender) (a : Answer)
 unfolding sender.meaning
 sender-in-use x y o a = with-room sender.Started sender.empty sender.meaning (λ s. s .room) x y o a refl
 
-pub receiver-in-use : (x y : Receiver) (o : Outcome rule-receiver.Receiver) (a : Answer) → room-ok (rule-receiver.room (left (receiver.meaning x) o)) ≡ true
+pub receiver-in-use : (x y : Receiver) (o : Outcome rule-receiver.Receiver) (a : Answer)
+    → room-ok (rule-receiver.room (left (receiver.meaning x) o)) ≡ true
     → Meets receiver.Sound receiver.meaning x o a y → held.Started (receiver.heldOf y)
 unfolding held.meaning table
 receiver-in-use x y o a = with-room (λ r. held.Started (receiver.heldOf r)) receiver.empty receiver.meaning rule-receiver.room x y o a refl
 
 module _ (c : Connection) (sound : Sound c) where
   -- ---- an event on the sending side, with the outcome o: it keeps the room, and an empty side refuses it
-  module _ {o : Outcome rule-sender.Sender} (kept : After (SameSpace (sender.meaning (c .sender))) (sender.meaning (c .sender)) o) (free : c .sender .room ≡ 0 → o ≡ Refused 2) where
+  module _ {o : Outcome rule-sender.Sender} (kept : After (SameSpace (sender.meaning (c .sender))) (sender.meaning (c .sender)) o)
+      (free : c .sender .room ≡ 0 → o ≡ Refused 2) where
     on-sender : (a : Answer) (y : Sender) → Meets sender.Sound sender.meaning (c .sender) o a y
         → Meets Sound meaning c (within (with-sender (meaning c)) o) a (record { sender = y; receiver = c .receiver })
     unfolding meaning sender.meaning
@@ -88,7 +90,8 @@ module _ (c : Connection) (sound : Sound c) where
     by-sender out e f m = rw (e, f) (on-sender (out .answer) (out .«record») m)
 
   -- ---- and on the receiving side
-  module _ {o : Outcome rule-receiver.Receiver} (kept : After (SameRoom (receiver.meaning (c .receiver))) (receiver.meaning (c .receiver)) o) (free : rule-receiver.unused (receiver.meaning (c .receiver)) ≡ true → o ≡ Refused 2) where
+  module _ {o : Outcome rule-receiver.Receiver} (kept : After (SameRoom (receiver.meaning (c .receiver))) (receiver.meaning (c .receiver)) o)
+      (free : rule-receiver.unused (receiver.meaning (c .receiver)) ≡ true → o ≡ Refused 2) where
     on-receiver : (a : Answer) (y : Receiver) → Meets receiver.Sound receiver.meaning (c .receiver) o a y
         → Meets Sound meaning c (within (with-receiver (meaning c)) o) a (record { sender = c .sender; receiver = y })
     unfolding meaning held.meaning table

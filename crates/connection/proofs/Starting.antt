@@ -48,7 +48,9 @@ module _ (n : ℕ) (p : Psn) (good : room-ok n ≡ true) (low : psn-ok p ≡ tru
 
     sends : sender.Started y
     unfolding rule-sender.fresh
-    sends = sender-in-use sender.empty y (rule-sender.start n p) a (ap (λ (x : rule-sender.Sender). room-ok (x .room)) (sym (m .record-is) ∙ sends-fresh) ∙ good) m
+    sends =
+        sender-in-use sender.empty y (rule-sender.start n p) a
+        (ap (λ (x : rule-sender.Sender). room-ok (x .room)) (sym (m .record-is) ∙ sends-fresh) ∙ good) m
 
   module _ (a : Answer) (y : Receiver) (m : Meets receiver.Sound receiver.meaning receiver.empty (rule-receiver.start n p) a y) where
     receives-fresh : receiver.meaning y ≡ rule-receiver.fresh n (p .0)
@@ -59,10 +61,12 @@ module _ (n : ℕ) (p : Psn) (good : room-ok n ≡ true) (low : psn-ok p ≡ tru
     unfolding rule-receiver.fresh
     receives =
         receiver-in-use receiver.empty y (rule-receiver.start n p) a
-        (ap (λ (x : rule-receiver.Receiver). room-ok (rule-receiver.room x)) (sym (m .record-is) ∙ receives-fresh) ∙ ap room-ok (length-replicate n false) ∙ good) m
+        (ap (λ (x : rule-receiver.Receiver). room-ok (rule-receiver.room x)) (sym (m .record-is) ∙ receives-fresh)
+        ∙ ap room-ok (length-replicate n false) ∙ good) m
 
 -- ---- the two together, in place of any record
-module _ (m : ℕ) (p : Psn) (n : ℕ) (q : Psn) (send-good : room-ok m ≡ true) (receive-good : room-ok n ≡ true) (send-low : psn-ok p ≡ true) (receive-low : psn-ok q ≡ true) where
+module _ (m : ℕ) (p : Psn) (n : ℕ) (q : Psn) (send-good : room-ok m ≡ true) (receive-good : room-ok n ≡ true)
+    (send-low : psn-ok p ≡ true) (receive-low : psn-ok q ≡ true) where
   abbrev first : rule.Connection
   first = record { sender = rule-sender.fresh m (p .0); receiver = rule-receiver.fresh n (q .0) }
 

@@ -42,7 +42,8 @@ pub left-more : (v m : ℕ) → v / 256 ^ m / 256 ≡ v / 256 ^ suc m
 left-more v m = div-div-eq-div-mul v (256 ^ m) 256 ∙ ap (λ (x : ℕ). v / x) (sym (pow-suc 256 m))
 
 -- the next byte before those that are spelled
-pub spell-more : (buffer : List ℕ) (at v m i j : ℕ) → suc j ≡ i → set (sets buffer (at + i) (spell m v)) (at + j) (v / 256 ^ m % 256) ≡ sets buffer (at + j) (spell (suc m) v)
+pub spell-more : (buffer : List ℕ) (at v m i j : ℕ) → suc j ≡ i
+    → set (sets buffer (at + i) (spell m v)) (at + j) (v / 256 ^ m % 256) ≡ sets buffer (at + j) (spell (suc m) v)
 unfolding spell
 spell-more buffer at v m i j e =
     let b = v / 256 ^ m % 256 in
@@ -76,7 +77,8 @@ pub number-all-at : (ws l : List ℕ) (i : ℕ) → getD (number-all ws l) i 0 �
 unfolding number-all number sum
 number-all-at [] l i = refl
 number-all-at (w ∷ ws) l zero = refl
-number-all-at (w ∷ ws) l (suc i) = number-all-at ws (drop w l) i ∙ ap (λ (x : List ℕ). number (take (getD ws i 0) x)) (drop-drop (sum (take i ws)) w l)
+number-all-at (w ∷ ws) l (suc i) =
+    number-all-at ws (drop w l) i ∙ ap (λ (x : List ℕ). number (take (getD ws i 0) x)) (drop-drop (sum (take i ws)) w l)
 
 -- a field that is not there is not high
 high-none : (ws : List ℕ) → high-psn ws [] ≡ false
@@ -85,7 +87,8 @@ high-none [] = refl
 high-none (w ∷ ws) = refl
 
 -- what is high from i on is high at i or behind it
-pub high-more : (ws vs : List ℕ) (i : ℕ) → high-psn (drop i ws) (drop i vs) ≡ (eqb (getD ws i 0) psn-width && leb turn (getD vs i 0) || high-psn (drop (suc i) ws) (drop (suc i) vs))
+pub high-more : (ws vs : List ℕ) (i : ℕ)
+    → high-psn (drop i ws) (drop i vs) ≡ (eqb (getD ws i 0) psn-width && leb turn (getD vs i 0) || high-psn (drop (suc i) ws) (drop (suc i) vs))
 unfolding high-psn
 high-more ws [] i = simp (drop-nil, high-none, and-false)
 high-more [] (v ∷ vs) i = rw drop-nil

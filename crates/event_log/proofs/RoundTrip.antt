@@ -19,8 +19,8 @@ use Rattle.rules.proofs.Apart.{reads-apart, writes-apart}
 use Rattle.event_log.specs.Parts.{Writes}
 
 -- "A log record written is read back as the same event"
-pub written-read : (slot : ℕ) (e : Event) (before after : List ℕ) (r : Written) (n : ℕ) (x : Read) → Writes slot e before r after → r ≡ Length n → Fits (widths (kindOf e)) (fieldsOf e)
-    → length before ≤ longest-log → read-line x ≡ read-line (read after 0) → x ≡ Record slot e (kindOf e) n
+pub written-read : (slot : ℕ) (e : Event) (before after : List ℕ) (r : Written) (n : ℕ) (x : Read) → Writes slot e before r after → r ≡ Length n
+    → Fits (widths (kindOf e)) (fieldsOf e) → length before ≤ longest-log → read-line x ≡ read-line (read after 0) → x ≡ Record slot e (kindOf e) n
 written-read slot e before after r n x p r-is f l h =
     let w : write e (length before) ≡ Length n = sym (writes-apart r (write e (length before)) (p .answer-is)) ∙ r-is in
     let b : after ≡ written slot e before (Length n) = p .bytes-are ∙ ap (written slot e before) w in
@@ -28,8 +28,9 @@ written-read slot e before after r n x p r-is f l h =
 
 module _ (log : List ℕ) (place slot : ℕ) (e : Event) (kind next : ℕ) (b : Bytes log) where
   -- "read then written gives the same bytes"
-  pub read-written : (x : Read) (before after : List ℕ) (r : Written) → read-line x ≡ read-line (read log place) → x ≡ Record slot e kind next → Writes slot e before r after
-      → next - place ≤ length before → (r ≡ Length (next - place)) × (after ≡ take (next - place) (drop place log) ++ drop (next - place) before)
+  pub read-written : (x : Read) (before after : List ℕ) (r : Written) → read-line x ≡ read-line (read log place) → x ≡ Record slot e kind next
+      → Writes slot e before r after → next - place ≤ length before
+      → (r ≡ Length (next - place)) × (after ≡ take (next - place) (drop place log) ++ drop (next - place) before)
   read-written x before after r h x-is p l =
       let w = read-write log place slot e kind next before b (sym (reads-apart x (read log place) h) ∙ x-is) l in
       (writes-apart r (write e (length before)) (p .answer-is) ∙ w .0, p .bytes-are ∙ w .1)

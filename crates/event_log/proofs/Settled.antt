@@ -17,6 +17,7 @@ module _ (log : List ℕ) (place : ℕ) where
   pub body-settled : (x y : List ℕ) → x ≡ body log place (read log place) → y ≡ body log place (read log place) → x ≡ y
   body-settled x y p q = p ∙ sym q
 
-pub write-settled : (slot : ℕ) (e : Event) (before : List ℕ) (r s : Written) (x y : List ℕ) → Writes slot e before r x → Writes slot e before s y → (r ≡ s) × (x ≡ y)
+pub write-settled : (slot : ℕ) (e : Event) (before : List ℕ) (r s : Written) (x y : List ℕ) → Writes slot e before r x → Writes slot e before s y
+    → (r ≡ s) × (x ≡ y)
 write-settled slot e before r s x y p q =
     (writes-apart r s (p .answer-is ∙ sym (q .answer-is)), p .bytes-are ∙ sym (q .bytes-are))

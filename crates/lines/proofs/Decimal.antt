@@ -11,7 +11,7 @@ use Rattle.lines.specs.Text.{digits-of}
 glyph-is : (d : ℕ) → d < 10 → glyph d ≡ 48 + d
 glyph-is d h = rw (lt-ltb d 10 h)
 
--- at least ten to the k leaves, divided by ten, at least one less
+-- divided by ten, a number has one digit fewer
 pub fewest-digits : (most k n : ℕ) → k ≤ most → Fewest 10 1 n k → digits 10 k n ≡ digits-of most n
 unfolding digits-of
 fewest-digits zero zero n h f = refl
@@ -27,7 +27,9 @@ fewest-digits (suc most) (suc (suc k)) n h f =
     let positive : 1 ≤ 10 ^ k = one-le-pow k 10 (omega arith) in
     let same : k ≡ suc k - 1 = omega arith in
     let less : Fewest 10 1 (n / 10) (suc k) = (omega arith, omega (arith, f .1), λ _. subst (λ (m : ℕ). 10 ^ m ≤ n / 10) same (omega arith)) in
-    rw (le-ltb n 10 (omega arith)) (ap₂ (λ (l : List ℕ) (d : ℕ). l ++ (d ∷ [])) (fewest-digits most (suc k) (n / 10) (omega arith) less) (glyph-is (n % 10) (omega arith)))
+    let front = fewest-digits most (suc k) (n / 10) (omega arith) less in
+    let last = glyph-is (n % 10) (omega arith) in
+    rw (le-ltb n 10 (omega arith)) (ap₂ (λ (l : List ℕ) (d : ℕ). l ++ (d ∷ [])) front last)
 
 -- 64 bits hold no number of more than 20 digits
 pub digits-fit : (k n : ℕ) → n < 2 ^ 64 → Fewest 10 1 n k → k ≤ 20

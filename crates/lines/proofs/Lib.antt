@@ -1,3 +1,3 @@
--- Laws of text in a buffer.
+-- Laws of text in a buffer, and of the decimal digits of a number. Assumes nothing.
 pub mod Putting
 pub mod Decimal

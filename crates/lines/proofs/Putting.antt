@@ -24,8 +24,10 @@ past-more [] u n at = refl
 past-more (b ∷ t) u n at = past-more t u n (next n at)
 
 -- one call behind another
-pub puts-more : (t u before middle after : List ℕ) (at p r : ℕ) → Puts before at t middle p → Puts middle p u after r → Puts before at (t ++ u) after r
+pub puts-more : (t u before middle after : List ℕ) (at p r : ℕ) → Puts before at t middle p → Puts middle p u after r
+    → Puts before at (t ++ u) after r
 puts-more t u before middle after at p r f s = record {
   bytes-are = s .bytes-are ∙ ap₂ (λ (l : List ℕ) (i : ℕ). put l i u) (f .bytes-are) (f .index-is) ∙ sym (put-more t u before at);
-  index-is = s .index-is ∙ ap₂ (λ (n i : ℕ). past n i u) (ap length (f .bytes-are) ∙ length-put t before at) (f .index-is) ∙ sym (past-more t u (length before) at);
+  index-is = s .index-is ∙ ap₂ (λ (n i : ℕ). past n i u) (ap length (f .bytes-are) ∙ length-put t before at) (f .index-is)
+      ∙ sym (past-more t u (length before) at);
 }

@@ -27,7 +27,8 @@ unfolding after
 moved e s t h l = omega arith
 
 -- the packet at distance d is set in us
-module _ (x : Held) (h : Started x) (d : ℕ) (l : d < x .head .room) (us : List ℕ) (put : Becomes (x .words) us (withBit (x .words) (offset x + d))) where
+module _ (x : Held) (h : Started x) (d : ℕ) (l : d < x .head .room)
+    (us : List ℕ) (put : Becomes (x .words) us (withBit (x .words) (offset x + d))) where
   us-before : (p : ℕ) → p < offset x → at us p ≡ true
   us-before p k = put .bits-are p ∙ ap (λ (b : Bool). b || (eqb p (offset x + d) && ltb p (bits (x .words)))) (h .before p k)
 
@@ -62,7 +63,8 @@ module _ (x : Held) (h : Started x) (d : ℕ) (l : d < x .head .room) (us : List
         pick (no k) = us-past t (omega arith)
 
     -- the whole words below it go
-    module _ (vs : List ℕ) (shed : Becomes us vs (λ p. at us (64 * (t / 64) + p))) (e : Psn) (e-is : e .0 ≡ after (x .head .expected .0) (t - offset x)) (n : ℕ) where
+    module _ (vs : List ℕ) (shed : Becomes us vs (λ p. at us (64 * (t / 64) + p)))
+        (e : Psn) (e-is : e .0 ≡ after (x .head .expected .0) (t - offset x)) (n : ℕ) where
       abbrev y : Held
       y = held (record { room = x .head .room; expected = e; count = n }) vs
 
@@ -82,7 +84,8 @@ module _ (x : Held) (h : Started x) (d : ℕ) (l : d < x .head .room) (us : List
         past = λ p k. shed .bits-are p ∙ us-past (64 * (t / 64) + p) (omega (arith, offset-is, run-from));
       }
 
-      pub accept-means : (a : Arrival) → d ≡ distance (x .head .expected .0) (a .psn .0) → n ≡ (x .head .count + a .size) % 2 ^ 32 → meaning y ≡ accept (meaning x) a
+      pub accept-means : (a : Arrival) → d ≡ distance (x .head .expected .0) (a .psn .0) → n ≡ (x .head .count + a .size) % 2 ^ 32
+          → meaning y ≡ accept (meaning x) a
       unfolding meaning accept
       accept-means a d-is n-is =
           let room = x .head .room in

@@ -23,7 +23,8 @@ use Rattle.receiver.proofs.Entries.{room-is}
 use Rattle.rules.proofs.Packed.{pack-table, pack-table-lt}
 
 -- the block of packet p at distance d begins at entry o
-module _ (x : Held) (h : Started x) (p d o : ℕ) (d-is : d ≡ distance (x .head .expected .0) p) (o-is : o ≡ cond (ltb d (x .head .room)) (64 * (d / 64)) 0) where
+module _ (x : Held) (h : Started x) (p d o : ℕ)
+    (d-is : d ≡ distance (x .head .expected .0) p) (o-is : o ≡ cond (ltb d (x .head .room)) (64 * (d / 64)) 0) where
   pub block-fits : o + 64 ≤ x .head .room
   block-fits = pick (decLt d (x .head .room))
     where
@@ -36,7 +37,9 @@ module _ (x : Held) (h : Started x) (p d o : ℕ) (d-is : d ≡ distance (x .hea
   block-at-is = rw (room-is x, ← d-is) (sym o-is)
 
   entries-are : take 64 (drop o (table (x .head .room) (accepted x))) ≡ table 64 (λ i. accepted x (o + i))
-  entries-are = ap (take 64) (drop-table o (x .head .room) (accepted x)) ∙ take-table 64 (x .head .room - o) (λ i. accepted x (o + i)) (omega (arith, block-fits))
+  entries-are =
+      let room = x .head .room in
+      ap (take 64) (drop-table o room (accepted x)) ∙ take-table 64 (room - o) (λ i. accepted x (o + i)) (omega (arith, block-fits))
 
   pub block-is : (base : Psn) (b : ℕ) → base .0 ≡ after (x .head .expected .0) o → b < 2 ^ 64 → Bits b (λ i. at (x .words) (offset x + o + i))
       → _≡_ {A = Block} (record { base = base; bitmap = b }) (block (meaning x) p)
@@ -45,7 +48,8 @@ module _ (x : Held) (h : Started x) (p d o : ℕ) (d-is : d ≡ distance (x .hea
       let w = table (x .head .room) (accepted x) in
       let f : ℕ → Bool = λ i. accepted x (o + i) in
       let bits-are : Bits b f = λ i k. bits i k ∙ ap (at (x .words)) (omega arith) in
-      let number : b ≡ pack (take 64 (drop o w)) = bits-one b (pack (table 64 f)) f small (pack-table-lt f) bits-are (pack-table f) ∙ sym (ap pack entries-are) in
+      let number : b ≡ pack (take 64 (drop o w)) =
+      bits-one b (pack (table 64 f)) f small (pack-table-lt f) bits-are (pack-table f) ∙ sym (ap pack entries-are) in
       let starts = base-is ∙ ap (after (x .head .expected .0)) (sym block-at-is) in
       let holds = number ∙ ap (λ (n : ℕ). pack (take 64 (drop n w))) (sym block-at-is) in
       λ i. record { base = record { 0 = starts i }; bitmap = holds i }

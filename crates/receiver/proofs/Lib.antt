@@ -1,4 +1,4 @@
--- Laws of the receiver's rules and of its words. Assumes nothing.
+-- Laws of the receiver's rules and of its words, and that each contract settles its outcome. Assumes nothing.
 pub mod Ways
 pub mod Entries
 pub mod Accepting

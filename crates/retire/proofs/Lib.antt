@@ -1,5 +1,4 @@
--- What other crates cite, and what the functions' proofs share: the bits that a SACK names, a word's set bits one by one, the rows word by word.
--- Assumes nothing.
+-- Laws of the bits that a SACK names, of a word's set bits one by one and of the rows word by word; and that `retire` is settled. Assumes nothing.
 pub mod Naming
 pub mod Walk
 pub mod Words

@@ -105,7 +105,8 @@ module _ (R M sizes : List ℕ) (first : ℕ) (f : ℕ → Bool) where
       where
         new : (b : ℕ) → b < 64 → fresh R f (64 * j + b) ≡ onlyIn named (getD R′ j 0) b
         new b p =
-            sym (ap₂ (λ (x y : Bool). x && not y) (is b p) (still (λ x y. x || y) or-false f R j R′ (u .retired-are) (out .retired) named l (h .retired-are) is b p))
+            let stood = still (λ x y. x || y) or-false f R j R′ (u .retired-are) (out .retired) named l (h .retired-are) is b p in
+            sym (ap₂ (λ (x y : Bool). x && not y) (is b p) stood)
 
         weight : (b : ℕ) → b < 64 → sizeAt sizes first (64 * j + b) ≡ sizeAt sizes start b
         weight b p = sym (ap (λ (s : ℕ). sizeAt sizes s b) start-is ∙ ap (λ (k : ℕ). getD sizes k 0) (size-on first (64 * j) b))

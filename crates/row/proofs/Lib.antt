@@ -1,3 +1,3 @@
--- What other crates cite: laws on the bits of a row of words. Assumes nothing.
+-- What other crates cite: laws of the bits of a row of words, and that the bits settle the row. Assumes nothing.
 pub mod Rows
 pub mod Settled

@@ -140,18 +140,23 @@ module _ (x : Sender) (cack : ℕ) (b : Block) (u : ℕ) (R M : List ℕ) (out :
 
   no-unsent-bit : any 64 (λ j. bitAt (b .bitmap) j && unsent (meaning x) (after (b .base .0) j)) ≡ false
   unfolding names-unsent unsent-bit
-  no-unsent-bit = or-false-each (unsent-cack (meaning x) cack) (any 64 (λ j. bitAt (b .bitmap) j && unsent (meaning x) (after (b .base .0) j))) (all .none-unsent) .1
+  no-unsent-bit =
+      let unsent-at : ℕ → Bool = λ j. bitAt (b .bitmap) j && unsent (meaning x) (after (b .base .0) j) in
+      or-false-each (unsent-cack (meaning x) cack) (any 64 unsent-at) (all .none-unsent) .1
 
   no-bit-past : (i : ℕ) → x .outstanding ≤ i → i < half → has-bit b (after (x .place .0) (1 + i)) ≡ false
   unfolding has-bit
   no-bit-past i l m =
       let q = after (x .place .0) (1 + i) in
-      let d = distance (b .base .0) q in
-      let is-unsent : unsent (meaning x) (after (b .base .0) d) ≡ true = ap (unsent (meaning x)) (distance-after (b .base .0) q (after-lt (x .place .0) (1 + i))) ∙ bit-unsent i l m in
+      let base = b .base .0 in
+      let d = distance base q in
+      let unsent-at : ℕ → Bool = λ j. bitAt (b .bitmap) j && unsent (meaning x) (after base j) in
+      let is-unsent : unsent (meaning x) (after base d) ≡ true =
+      ap (unsent (meaning x)) (distance-after base q (after-lt (x .place .0) (1 + i))) ∙ bit-unsent i l m in
       never-true (ltb d 64 && bitAt (b .bitmap) d)
       (λ e.
       let each = and-true-each (ltb d 64) (bitAt (b .bitmap) d) e in
-      let named-unsent = any-some 64 (λ j. bitAt (b .bitmap) j && unsent (meaning x) (after (b .base .0) j)) d (ltb-true d 64 (each .0)) (ap₂ (λ (s t : Bool). s && t) (each .1) is-unsent) in
+      let named-unsent = any-some 64 unsent-at d (ltb-true d 64 (each .0)) (ap₂ (λ (s t : Bool). s && t) (each .1) is-unsent) in
       false≢true (sym no-unsent-bit ∙ named-unsent))
 
   named-past : (p : ℕ) → offset x + x .outstanding ≤ p → p < 64 * words → f p ≡ false
@@ -193,7 +198,9 @@ module _ (x : Sender) (cack : ℕ) (b : Block) (u : ℕ) (R M : List ℕ) (out :
   M-unsent p l = M-at p ∙ ap (λ (t : Bool). t && not (f p)) (h .mark-unsent p l)
 
   not-both-in : (p : ℕ) → (at R p && at M p) ≡ false
-  not-both-in p = ap₂ (λ (s t : Bool). s && t) (R-at p) (M-at p) ∙ not-both-after (at (x .retired) p) (at (x .marked) p) (f p) (ltb p (bits (x .retired))) (h .not-both p)
+  not-both-in p =
+      ap₂ (λ (s t : Bool). s && t) (R-at p) (M-at p)
+      ∙ not-both-after (at (x .retired) p) (at (x .marked) p) (f p) (ltb p (bits (x .retired))) (h .not-both p)
 
   -- ---- the entries between: retired, and the place not moved yet
   abbrev mid : ℕ → Entry
@@ -221,7 +228,8 @@ module _ (x : Sender) (cack : ℕ) (b : Block) (u : ℕ) (R M : List ℕ) (out :
     weigh-in =
         total-window (offset x) (x .outstanding) (bits (x .retired)) (λ p. cond (fresh (x .retired) f p) (w p) 0)
         (λ p l. ap (λ (t : Bool). cond t (w p) 0) (ap (λ (r : Bool). f p && not r) (h .before p l) ∙ and-false (f p)))
-        (λ p l m. ap (λ (t : Bool). cond (t && not (at (x .retired) p)) (w p) 0) (named-past p l (omega (arith, h .retired-long)))) (omega (arith, room-in, h .retired-long))
+        (λ p l m. ap (λ (t : Bool). cond (t && not (at (x .retired) p)) (w p) 0) (named-past p l (omega (arith, h .retired-long))))
+        (omega (arith, room-in, h .retired-long))
         ∙ total-same (x .outstanding) _ _ (λ i l. ap₂ (λ (t : Bool) (n : ℕ). cond (t && not (at (x .retired) (offset x + i))) n 0) (named-in i) (same i l))
 
   newly-is : out .newly ≡ newly g (meaning x .entries)
@@ -231,14 +239,17 @@ module _ (x : Sender) (cack : ℕ) (b : Block) (u : ℕ) (R M : List ℕ) (out :
   bytes-is : out .bytes ≡ weigh (x .outstanding) (λ i. g i && not (entry x i .retired)) (λ i. entry x i .size)
   unfolding entry
   bytes-is =
+      let a = x .place .0 in
       all .rows .weighed
-      ∙ weigh-in (sizeAt (x .sizes) (row-first (x .place .0))) (λ i. getD (x .sizes) (size-at x i) 0) (λ i l. ap (λ (n : ℕ). getD (x .sizes) n 0) (row-size (x .place .0) i))
+      ∙ weigh-in (sizeAt (x .sizes) (row-first a)) (λ i. getD (x .sizes) (size-at x i) 0)
+      (λ i l. ap (λ (n : ℕ). getD (x .sizes) n 0) (row-size a i))
 
   bytes-split : total (x .outstanding) (λ i. size-held (mid i)) + out .bytes ≡ x .held
   bytes-split =
       ap (λ (n : ℕ). total (x .outstanding) (λ i. size-held (mid i)) + n) bytes-is
       ∙ total-both (x .outstanding) (λ i. size-held (mid i)) _ (λ i. size-held (entry x i))
-      (λ i l. ap (λ (e : Entry). size-held e + cond (g i && not (entry x i .retired)) (entry x i .size) 0) (mid-is i l) ∙ held-split (entry x i) (g i) (entry x i .retired) refl)
+      (λ i l. ap (λ (e : Entry). size-held e + cond (g i && not (entry x i .retired)) (entry x i .size) 0) (mid-is i l)
+      ∙ held-split (entry x i) (g i) (entry x i .retired) refl)
       ∙ sym (h .held-is)
 
   pub bytes-le : out .bytes ≤ x .held
@@ -316,7 +327,8 @@ module _ (x : Sender) (cack : ℕ) (b : Block) (u : ℕ) (R M : List ℕ) (out :
           let w : ℕ → ℕ = λ i. size-held (mid i) in
           let n-is : m + (n - m) ≡ n = omega (arith, run .within) in
           let front : total m w ≡ 0 = total-none m w (λ i l. retired-holds (mid i) (R-run (offset x + i) (omega arith))) in
-          let rest : total (n - m) (λ i. w (m + i)) ≡ total (n - m) (λ i. size-held (entry acknowledged i)) = total-same (n - m) _ _ (λ i l. ap size-held (sym (entry-is i))) in
+          let rest : total (n - m) (λ i. w (m + i)) ≡ total (n - m) (λ i. size-held (entry acknowledged i)) =
+          total-same (n - m) _ _ (λ i l. ap size-held (sym (entry-is i))) in
           let parts : total n w ≡ total m w + total (n - m) (λ i. w (m + i)) = ap (λ (j : ℕ). total j w) (sym n-is) ∙ total-add m (n - m) w in
           omega (arith, front, rest, parts, bytes-split)
 

@@ -30,7 +30,8 @@ first-bit : (first : ℕ) → (after first (turn - 1) + 1) % 64 ≡ first % 64
 unfolding after
 first-bit first = omega arith
 
-module _ (room first : ℕ) (place : Psn) (w : ℕ) (good : room-ok room ≡ true) (place-is : place .0 ≡ after first (turn - 1)) (low : Bits w (λ i. ltb i (first % 64))) where
+module _ (room first : ℕ) (place : Psn) (w : ℕ)
+    (good : room-ok room ≡ true) (place-is : place .0 ≡ after first (turn - 1)) (low : Bits w (λ i. ltb i (first % 64))) where
   abbrev pub begun : Sender
   begun = record {
     room = room;
@@ -47,7 +48,8 @@ module _ (room first : ℕ) (place : Psn) (w : ℕ) (good : room-ok room ≡ tru
 
   low-at : Row (set (replicate words 0) 0 w) (λ p. ltb p (first % 64))
   low-at =
-      row-set (replicate words 0) 0 w (λ p. ltb p (first % 64)) (omega (arith, length-replicate {A = ℕ} words 0)) (λ b h. low b h ∙ ap (λ (p : ℕ). ltb p (first % 64)) (omega arith))
+      row-set (replicate words 0) 0 w (λ p. ltb p (first % 64)) (omega (arith, length-replicate {A = ℕ} words 0))
+      (λ b h. low b h ∙ ap (λ (p : ℕ). ltb p (first % 64)) (omega arith))
       (λ p n. zeros-at p ∙ sym (le-ltb p (first % 64) (omega (arith, n))))
 
   pub begun-means : meaning begun ≡ fresh room first

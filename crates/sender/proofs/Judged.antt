@@ -69,9 +69,10 @@ module _ (x : Sender) where
         → Bits w (λ j. bitAt (b .bitmap) j && ahead (x .outstanding) ((o + j) % turn)) → not (eqb w 0) ≡ names-unsent (meaning x) cack b
     unfolding names-unsent unsent-bit
     unsent-by-bit n o w o-is small e =
-        any-bit w (λ j. bitAt (b .bitmap) j && unsent (meaning x) (after (b .base .0) j)) small
+        let unsent-at : ℕ → Bool = λ j. bitAt (b .bitmap) j && unsent (meaning x) (after (b .base .0) j) in
+        any-bit w unsent-at small
         (λ j l. e j l ∙ ap (λ (t : Bool). bitAt (b .bitmap) j && t) (sym (unsent-is (after (b .base .0) j) ((o + j) % turn) (at j))))
-        ∙ ap (λ (t : Bool). t || any 64 (λ j. bitAt (b .bitmap) j && unsent (meaning x) (after (b .base .0) j))) (sym (cack-is ∙ not-past (decLt (x .outstanding) d)))
+        ∙ ap (λ (t : Bool). t || any 64 unsent-at) (sym (cack-is ∙ not-past (decLt (x .outstanding) d)))
       where
         at : (j : ℕ) → (o + j) % turn ≡ index (meaning x) (after (b .base .0) j)
         at j = ap (λ (i : ℕ). (i + j) % turn) o-is ∙ distance-on (after (x .place .0) 1) (b .base .0) j ∙ sym (index-is (after (b .base .0) j))

@@ -125,7 +125,8 @@ module _ (x : Sender) (h : Started x) (p i : ℕ) (is : i ≡ index (meaning x) 
     pub mark-again : at (x .marked) (offset x + i) ≡ true → Marks x p (record { newly = 0; «record» = x })
     mark-again e = marks-none (may-in (at (x .retired) (offset x + i)) true l refl e ∙ and-false (not (at (x .retired) (offset x + i))))
 
-    pub mark-new : at (x .retired) (offset x + i) ≡ false → at (x .marked) (offset x + i) ≡ false → (ws : List ℕ) → Becomes (x .marked) ws (withBit (x .marked) (offset x + i))
+    pub mark-new : at (x .retired) (offset x + i) ≡ false → at (x .marked) (offset x + i) ≡ false
+        → (ws : List ℕ) → Becomes (x .marked) ws (withBit (x .marked) (offset x + i))
         → (y : Sender) → y ≡ with-marked x ws → Marks x p (record { newly = 1; «record» = y })
     unfolding mark left answered
     mark-new r m ws set-it y y-is =

@@ -44,7 +44,9 @@ module _ (x : Sender) (h : Started x) (size : ℕ) (ok : size-ok size ≡ true) 
   entry-old : (i : ℕ) → i < x .outstanding → entry (sent x size) i ≡ entry x i
   unfolding entry
   entry-old i l =
-      same-entry (getD-set-other (x .sizes) (size-at x (x .outstanding)) (size-at x i) size 0 (apart (x .place .0) i (x .outstanding) l (omega (arith, room-most x h)))) refl refl
+      let n = x .outstanding in
+      let elsewhere = apart (x .place .0) i n l (omega (arith, room-most x h)) in
+      same-entry (getD-set-other (x .sizes) (size-at x n) (size-at x i) size 0 elsewhere) refl refl
 
   entry-new : entry (sent x size) (x .outstanding) ≡ new size
   unfolding entry
@@ -75,7 +77,8 @@ module _ (x : Sender) (h : Started x) (size : ℕ) (ok : size-ok size ≡ true) 
     not-both = h .not-both;
     mark-unsent = λ p l. h .mark-unsent p (omega arith);
     sizes-good = λ i l. good i (decLt i (x .outstanding)) l;
-    held-is = ap₂ (λ (a b : ℕ). a + b) (h .held-is ∙ total-same (x .outstanding) _ _ (λ i l. ap size-held (sym (entry-old i l)))) (sym (ap size-held entry-new ∙ new-held size))
+    held-is = ap₂ (λ (a b : ℕ). a + b) (h .held-is ∙ total-same (x .outstanding) _ _ (λ i l. ap size-held (sym (entry-old i l))))
+        (sym (ap size-held entry-new ∙ new-held size))
         ∙ sym (total-more (x .outstanding) (λ i. size-held (entry (sent x size) i)));
   }
     where

@@ -137,7 +137,8 @@ module _ (x : Sender) (used : x .room ≡ 0 → ⊥) where
     resend-9 l = rw (some-room, none-marked, le-leb (x .outstanding) i l)
 
     pub resend-on : i < x .outstanding
-        → resend (meaning x) ≡ Done (with-entries (meaning x) (update (with-mark false) (meaning x .entries) i)) (answer.Resent (psn (after (x .place .0) (1 + i))))
+        → resend (meaning x) ≡ Done (with-entries (meaning x) (update (with-mark false) (meaning x .entries) i))
+        (answer.Resent (psn (after (x .place .0) (1 + i))))
     unfolding resend refuse
     resend-on l = rw (some-room, none-marked, lt-leb (x .outstanding) i l, is, place-is)
 
@@ -157,6 +158,7 @@ module _ (x : Sender) (used : x .room ≡ 0 → ⊥) where
         unfolding sack refuse
         sack-8 e = rw (some-room, not-false (psn-ok cack) low, not-false (psn-ok (b .base)) base-low, e)
 
-        pub sack-on : names-unsent (meaning x) (cack .0) b ≡ false → sack (meaning x) cack b ≡ Done (after-sack (meaning x) (cack .0) b) (report (meaning x) (cack .0) b)
+        pub sack-on : names-unsent (meaning x) (cack .0) b ≡ false
+            → sack (meaning x) cack b ≡ Done (after-sack (meaning x) (cack .0) b) (report (meaning x) (cack .0) b)
         unfolding sack refuse
         sack-on e = rw (some-room, not-false (psn-ok cack) low, not-false (psn-ok (b .base)) base-low, e)

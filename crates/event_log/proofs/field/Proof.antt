@@ -37,9 +37,11 @@ loop-holds c = (omega arith, refl)
 
 mul-v : tie.Need-mul-v Inv-loop μ-loop
 mul-v c =
-    let a = c .before .before .before .args in
+    let entry = c .before .before .before in
+    let a = entry .args in
     let i = c .before .loop .i in
-    omega (arith, room (a .r .now) (a .at) i (a .width) (λ j. c .before .before .shared-slice-known .given j .fits) (c .loop-test .taken) (c .before .before .before .pre .1))
+    let bytes : Bytes (a .r .now) = λ j. c .before .before .shared-slice-known .given j .fits in
+    omega (arith, room (a .r .now) (a .at) i (a .width) bytes (c .loop-test .taken) (entry .pre .1))
 
 add-wide : tie.Need-add-wide Inv-loop μ-loop
 add-wide c = search needs
@@ -52,10 +54,12 @@ wide-requires c κs = search needs
 
 add-v : tie.Need-add-v Inv-loop μ-loop
 add-v c =
-    let a = c .before .before .before .before .before .args in
+    let entry = c .before .before .before .before .before in
+    let a = entry .args in
     let i = c .before .before .before .loop .i in
     let b = c .before .before .before .before .shared-slice-known .given in
-    omega (arith, room (a .r .now) (a .at) i (a .width) (λ j. b j .fits) (c .before .before .loop-test .taken) (c .before .before .before .before .before .pre .1), c .wide .ensures, b (a .at + i))
+    let fits = room (a .r .now) (a .at) i (a .width) (λ j. b j .fits) (c .before .before .loop-test .taken) (entry .pre .1) in
+    omega (arith, fits, c .wide .ensures, b (a .at + i))
 
 add-i : tie.Need-add-i Inv-loop μ-loop
 add-i c = search needs
@@ -73,9 +77,12 @@ returns : tie.Need-returns Inv-loop μ-loop
 returns c =
     let a = c .before .before .before .args in
     let l = c .before .loop in
+    let r = a .r .now in
+    let t = drop (a .at) r in
     let e : l .i ≡ a .width = omega arith in
-    let v-is : l .v ≡ number (take (a .width) (drop (a .at) (a .r .now))) = l .inv .1 ∙ ap (λ (n : ℕ). number (take n (drop (a .at) (a .r .now)))) e in
-    (v-is, rw v-is (number-take-lt (a .width) (drop (a .at) (a .r .now)) (bytes-drop (a .at) (a .r .now) (λ j. c .before .before .shared-slice-known .given j .fits))))
+    let v-is : l .v ≡ number (take (a .width) t) = l .inv .1 ∙ ap (λ (n : ℕ). number (take n t)) e in
+    let bytes : Bytes r = λ j. c .before .before .shared-slice-known .given j .fits in
+    (v-is, rw v-is (number-take-lt (a .width) t (bytes-drop (a .at) r bytes)))
 
 pub field-spec : {M : Type 1} → statement M
 field-spec =

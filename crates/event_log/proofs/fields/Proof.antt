@@ -44,7 +44,9 @@ abbrev μ-loop : tie.MeasureT-loop
 μ-loop r kind w v₀ at₀ i₀ v at i = 4 - i
 
 here : (c : tie.In-loop Inv-loop μ-loop) → Field (c .before .before .before .before .args .kind) (c .before .before .layout .result) (c .before .loop .i)
-here c = field-at (c .before .before .before .before .args .kind) (c .before .before .layout .result) (c .before .loop .i) (c .before .before .layout .ensures) (c .loop-test .taken)
+here c =
+    let layout = c .before .before .layout in
+    field-at (c .before .before .before .before .args .kind) (layout .result) (c .before .loop .i) (layout .ensures) (c .loop-test .taken)
 
 layout-requires : tie.Need-layout-requires Inv-loop μ-loop
 layout-requires c κs = search needs
@@ -89,11 +91,13 @@ loop-again c =
     let l = c .before .before .loop in
     let f = here (c .before) in
     let ws = widths (a .kind) in
-    let one : c .field .result ≡ getD (number-all ws (drop 4 (a .r .now))) (l .i) 0 =
-    c .field .ensures .0 ∙ ap₂ (λ (m n : ℕ). number (take n (drop m (a .r .now)))) (l .inv .1) (f .width) ∙ sym (field-here ws (a .r .now) (l .i)) in (
+    let r = a .r .now in
+    let all = number-all ws (drop 4 r) in
+    let one : c .field .result ≡ getD all (l .i) 0 =
+    c .field .ensures .0 ∙ ap₂ (λ (m n : ℕ). number (take n (drop m r))) (l .inv .1) (f .width) ∙ sym (field-here ws r (l .i)) in (
       omega arith,
       omega (arith, l .inv .1, f .next),
-      ap₂ (λ (x : List ℕ) (y : ℕ). set x (l .i) y) (l .inv .2) one ∙ rw add-one (padded-more (number-all ws (drop 4 (a .r .now))) (l .i) (c .before .loop-test .taken)),
+      ap₂ (λ (x : List ℕ) (y : ℕ). set x (l .i) y) (l .inv .2) one ∙ rw add-one (padded-more all (l .i) (c .before .loop-test .taken)),
     )
 
 returns : tie.Need-returns Inv-loop μ-loop
@@ -103,8 +107,9 @@ returns c =
     let ws = widths (a .kind) in
     let t = drop 4 (a .r .now) in
     let e : l .i ≡ 4 = omega arith in
-    let all : take 4 (number-all ws t) ≡ number-all ws t = take-all 4 (number-all ws t) (omega (arith, few-fields (a .kind), length-number-all ws t)) in
-    let v-is : l .v ≡ padded (number-all ws t) = l .inv .2 ∙ ap (λ (n : ℕ). padded (take n (number-all ws t))) e ∙ ap padded all in
+    let all = number-all ws t in
+    let all-taken : take 4 all ≡ all = take-all 4 all (omega (arith, few-fields (a .kind), length-number-all ws t)) in
+    let v-is : l .v ≡ padded all = l .inv .2 ∙ ap (λ (n : ℕ). padded (take n all)) e ∙ ap padded all-taken in
     (v-is, rw v-is (fits-all ws t (bytes-drop 4 (a .r .now) (λ j. c .before .before .before .shared-slice-known .given j .fits))))
 
 pub fields-spec : {M : Type 1} → statement M

@@ -28,10 +28,12 @@ filled b slot e k v p q =
     (sets-more (0x4D ∷ 0x52 ∷ kindOf e ∷ slot ∷ []) (spell-all (widths (kindOf e)) (fieldsOf e)) b 0 4 refl)
 
 -- one field more
-one-more : (b v ws : List ℕ) (i : ℕ) → sets (sets b 4 (spell-all (take i ws) v)) (4 + sum (take i ws)) (spell (getD ws i 0) (getD v i 0)) ≡ sets b 4 (spell-all (take (i + 1) ws) v)
+one-more : (b v ws : List ℕ) (i : ℕ)
+    → sets (sets b 4 (spell-all (take i ws) v)) (4 + sum (take i ws)) (spell (getD ws i 0) (getD v i 0)) ≡ sets b 4 (spell-all (take (i + 1) ws) v)
 one-more b v ws i =
     let s = spell-all (take i ws) v in
-    rw (add-one, spell-all-more) (sets-more s (spell (getD ws i 0) (getD v i 0)) b 4 (4 + sum (take i ws)) (ap (λ (n : ℕ). 4 + n) (length-spell-all (take i ws) v)))
+    let behind = ap (λ (n : ℕ). 4 + n) (length-spell-all (take i ws) v) in
+    rw (add-one, spell-all-more) (sets-more s (spell (getD ws i 0) (getD v i 0)) b 4 (4 + sum (take i ws)) behind)
 
 abbrev Inv-loop : tie.InvT-loop
 Inv-loop buffer₀ slot k w v at₀ i₀ buffer at i = (i ≤ 4) × (at ≡ start k i) × (buffer ≡ sets buffer₀ 4 (spell-all (take i (widths k)) v))
@@ -39,8 +41,11 @@ Inv-loop buffer₀ slot k w v at₀ i₀ buffer at i = (i ≤ 4) × (at ≡ star
 abbrev μ-loop : tie.MeasureT-loop
 μ-loop buffer₀ slot k w v at₀ i₀ buffer at i = 4 - i
 
-here : (c : tie.At-loop Inv-loop μ-loop) → c .loop .i < 4 → Field (c .before .before .before .kind .result) (c .before .before .layout .result) (c .loop .i)
-here c = field-at (c .before .before .before .kind .result) (c .before .before .layout .result) (c .loop .i) (c .before .before .layout .ensures)
+here : (c : tie.At-loop Inv-loop μ-loop) → c .loop .i < 4
+    → Field (c .before .before .before .kind .result) (c .before .before .layout .result) (c .loop .i)
+here c =
+    let layout = c .before .before .layout in
+    field-at (c .before .before .before .kind .result) (layout .result) (c .loop .i) (layout .ensures)
 
 -- the buffer with the head
 abbrev headed : tie.At-loop Inv-loop μ-loop → List ℕ
@@ -52,10 +57,12 @@ kept : (c : tie.At-loop Inv-loop μ-loop) → length (c .loop .buffer) ≡ lengt
 kept c = ap length (c .loop .inv .2) ∙ simp (length-sets, length-set)
 
 -- each field has room
-placed : (c : tie.At-loop Inv-loop μ-loop) → c .loop .i < 4 → c .loop .at + getD (c .before .before .layout .result) (c .loop .i) 0 ≤ length (c .loop .buffer)
+placed : (c : tie.At-loop Inv-loop μ-loop) → c .loop .i < 4
+    → c .loop .at + getD (c .before .before .layout .result) (c .loop .i) 0 ≤ length (c .loop .buffer)
 placed c h =
+    let entry = c .before .before .before .before .before in
     let f = here c h in
-    omega (arith, f .next, f .within, c .loop .inv .1, kept c, ap whole (c .before .before .before .kind .ensures), c .before .before .before .before .before .pre)
+    omega (arith, f .next, f .within, c .loop .inv .1, kept c, ap whole (c .before .before .before .kind .ensures), entry .pre)
 
 kind-requires : tie.Need-kind-requires Inv-loop μ-loop
 kind-requires c κs = search needs
@@ -105,9 +112,9 @@ array-read-at c = search needs
 
 add-at : tie.Need-add-at Inv-loop μ-loop
 add-at c =
-    let l = c .before .before .before .before .before .loop in
-    let f = here (c .before .before .before .before .before) (c .before .before .before .before .loop-test .taken) in
-    omega (arith, l .inv .1, f .next, f .within, whole-small (c .before .before .before .before .before .before .before .before .kind .result))
+    let top = c .before .before .before .before .before in
+    let f = here top (c .before .before .before .before .loop-test .taken) in
+    omega (arith, top .loop .inv .1, f .next, f .within, whole-small (top .before .before .before .kind .result))
 
 add-i : tie.Need-add-i Inv-loop μ-loop
 add-i c = search needs
@@ -117,15 +124,17 @@ loop-less c = search needs
 
 loop-again : tie.Need-loop-again Inv-loop μ-loop
 loop-again c =
-    let l = c .before .before .before .before .before .loop in
-    let f = here (c .before .before .before .before .before) (c .before .before .before .before .loop-test .taken) in
-    let ws = widths (c .before .before .before .before .before .before .before .before .kind .result) in
-    let v = c .before .before .before .before .before .before .values .result in
+    let top = c .before .before .before .before .before in
+    let l = top .loop in
+    let f = here top (c .before .before .before .before .loop-test .taken) in
+    let ws = widths (top .before .before .before .kind .result) in
+    let w = top .before .before .layout .result in
+    let v = top .before .values .result in
     let x = getD v (l .i) 0 in
-    let b = headed (c .before .before .before .before .before) in (
+    let b = headed top in (
       omega arith,
       omega (arith, l .inv .1, f .next),
-      c .before .before .put .ensures ∙ ap (λ (y : List ℕ). sets y (l .at) (spell (getD (c .before .before .before .before .before .before .before .layout .result) (l .i) 0) x)) (l .inv .2)
+      c .before .before .put .ensures ∙ ap (λ (y : List ℕ). sets y (l .at) (spell (getD w (l .i) 0) x)) (l .inv .2)
           ∙ ap₂ (λ (m n : ℕ). sets (sets b 4 (spell-all (take (l .i) ws) v)) m (spell n x)) (l .inv .1) (f .width) ∙ one-more b v ws (l .i),
     )
 

@@ -18,7 +18,8 @@ use Rattle.event_log.proofs.high.Statement.{statement}
 use Rattle.event_log.proofs.high.Tie as tie
 
 -- a field that is not high is passed
-low : (w v : List ℕ) (i : ℕ) → (eqb (getD w i 0) psn-width && leb turn (getD v i 0)) ≡ false → high-psn (drop i w) (drop i v) ≡ high-psn (drop (i + 1) w) (drop (i + 1) v)
+low : (w v : List ℕ) (i : ℕ) → (eqb (getD w i 0) psn-width && leb turn (getD v i 0)) ≡ false
+    → high-psn (drop i w) (drop i v) ≡ high-psn (drop (i + 1) w) (drop (i + 1) v)
 low w v i h = rw add-one (high-more w v i ∙ rw h)
 
 abbrev Inv-loop : tie.InvT-loop

@@ -12,7 +12,8 @@ use Rattle.event_log.proofs.put.Statement.{statement}
 use Rattle.event_log.proofs.put.Tie as tie
 
 abbrev Inv-loop : tie.InvT-loop
-Inv-loop buffer₀ at width v left₀ i₀ buffer left i = (i ≤ width) × (left ≡ v / 256 ^ (width - i)) × (buffer ≡ sets buffer₀ (at + i) (spell (width - i) v))
+Inv-loop buffer₀ at width v left₀ i₀ buffer left i =
+    (i ≤ width) × (left ≡ v / 256 ^ (width - i)) × (buffer ≡ sets buffer₀ (at + i) (spell (width - i) v))
 
 abbrev μ-loop : tie.MeasureT-loop
 μ-loop buffer₀ at width v left₀ i₀ buffer left i = i
@@ -28,8 +29,11 @@ loop-holds : tie.Need-loop-holds Inv-loop μ-loop
 unfolding spell
 loop-holds c =
     let a = c .args in
-    let z : a .width - a .width ≡ 0 = omega arith in
-    (omega arith, sym (div-one (a .v)) ∙ ap (λ (n : ℕ). a .v / 256 ^ n) (sym z), ap (λ (n : ℕ). sets (a .buffer .now) (a .at + a .width) (spell n (a .v))) (sym z))
+    let z : a .width - a .width ≡ 0 = omega arith in (
+      omega arith,
+      sym (div-one (a .v)) ∙ ap (λ (n : ℕ). a .v / 256 ^ n) (sym z),
+      ap (λ (n : ℕ). sets (a .buffer .now) (a .at + a .width) (spell n (a .v))) (sym z),
+    )
 
 sub-i : tie.Need-sub-i Inv-loop μ-loop
 sub-i c = omega arith

@@ -33,7 +33,10 @@ part-read-first-end : tie.Need-part-read-first-end
 part-read-first-end c = search needs
 
 read-first-requires : tie.Need-read-first-requires
-read-first-requires c κs = let a = c .before .before .before .before .args in omega (arith, ap length (rest (a .log .now) (a .place)), length-drop (a .place) (a .log .now), c .before .before .if1 .left, c .before .if2 .left)
+read-first-requires c κs =
+    let a = c .before .before .before .before .args in
+    let log = a .log .now in
+    omega (arith, ap length (rest log (a .place)), length-drop (a .place) log, c .before .before .if1 .left, c .before .if2 .left)
 
 returns-3 : tie.Need-returns-3
 unfolding readOf

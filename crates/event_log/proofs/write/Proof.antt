@@ -20,7 +20,8 @@ use Rattle.event_log.proofs.write.Statement.{statement}
 use Rattle.event_log.proofs.write.Tie as tie
 
 -- what the rule says is what the promise says
-told : {slot : ℕ} {e : Event} {before : List ℕ} {r : Written} {after : List ℕ} → writeOf e (length before) ≡ r → after ≡ written slot e before r → Writes slot e before r after
+told : {slot : ℕ} {e : Event} {before : List ℕ} {r : Written} {after : List ℕ} → writeOf e (length before) ≡ r
+    → after ≡ written slot e before r → Writes slot e before r after
 told {slot} {e} {before} w b = record { answer-is = ap written-line (sym w); bytes-are = b ∙ ap (written slot e before) (sym w) }
 
 -- a record stored at the front
@@ -70,11 +71,14 @@ unfolding written
 returns-3 c =
     let a = c .before .before .before .before .before .before .before .before .before .before .before .args in
     let e = a .event in
-    let n-is = whole-is (c .before .before .before .before .before) in
-    let room : whole (kindOf e) ≤ length (a .buffer .now) = rw n-is at (c .before .before .before .before .if2 .left) in
-    let low = sym (high-is (c .before .before .before .before .before .before .before)) ∙ c .before .before .before .before .before .before .if1 .left in
-    told (writable-write e (length (a .buffer .now)) (record { low = low; room = room }) ∙ ap Length (sym n-is))
-    (c .before .before .fill .ensures ∙ front (a .slot) e (a .buffer .now) room ∙ ap (λ (n : ℕ). encode (a .slot) e ++ drop n (a .buffer .now)) (sym n-is))
+    let b = a .buffer .now in
+    let first = c .before .before .before .before .before .before in
+    let second = c .before .before .before .before in
+    let n-is = whole-is (second .before) in
+    let room : whole (kindOf e) ≤ length b = rw n-is at (second .if2 .left) in
+    let low = sym (high-is (first .before)) ∙ first .if1 .left in
+    told (writable-write e (length b) (record { low = low; room = room }) ∙ ap Length (sym n-is))
+    (c .before .before .fill .ensures ∙ front (a .slot) e b room ∙ ap (λ (n : ℕ). encode (a .slot) e ++ drop n b) (sym n-is))
 
 pub write-spec : {M : Type 1} → statement M
 write-spec =

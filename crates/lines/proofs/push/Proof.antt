@@ -20,14 +20,18 @@ same-length c = search needs
 
 returns : tie.Need-returns
 unfolding next put past
-returns c = record { bytes-are = refl; index-is = rw (lt-ltb (c .before .args .at) (length (c .before .args .out .now)) (omega arith)) }
+returns c =
+    let entry = c .before in
+    record { bytes-are = refl; index-is = rw (lt-ltb (entry .args .at) (length (entry .args .out .now)) (omega arith)) }
 
 returns-2 : tie.Need-returns-2
 unfolding next put past
-returns-2 c = record {
-  bytes-are = sym (set-out (c .before .args .out .now) (c .before .args .at) (c .before .args .b) (omega arith));
-  index-is = rw (le-ltb (c .before .args .at) (length (c .before .args .out .now)) (omega arith));
-}
+returns-2 c =
+    let entry = c .before in
+    record {
+      bytes-are = sym (set-out (entry .args .out .now) (entry .args .at) (entry .args .b) (omega arith));
+      index-is = rw (le-ltb (entry .args .at) (length (entry .args .out .now)) (omega arith));
+    }
 
 pub push-spec : {M : Type 1} → statement M
 push-spec = tie.close (tie.spec slice-write-out add-result same-length returns returns-2)

@@ -36,19 +36,23 @@ loop-less c = search needs
 
 loop-again : tie.Need-loop-again Inv-loop μ-loop
 loop-again c =
-    let start = c .before .before .before .before .before .before .before .before .before in
+    let entry = c .before .before .before .before .before .before .before .before .before in
     let turn = c .before .before .before .before .before .before .loop in
     let called = c .before .before .push in
-    let text = start .args .text .now in
+    let out = entry .args .out .now in
+    let at = entry .args .at in
+    let text = entry .args .text .now in
     let i = turn .i in
     let within : i < length text = omega arith in
-    (search needs, rw (add-one i, take-suc text i 0 within) (puts-more (take i text) (getD text i 0 ∷ []) (start .args .out .now) (turn .out) (called .last .0) (start .args .at) (turn .p) (called .result) (turn .inv .1) (called .ensures)))
+    let more =
+    puts-more (take i text) (getD text i 0 ∷ []) out (turn .out) (called .last .0) at (turn .p) (called .result) (turn .inv .1) (called .ensures) in
+    (search needs, rw (add-one i, take-suc text i 0 within) more)
 
 same-length : tie.Need-same-length Inv-loop μ-loop
 same-length c =
-    let start = c .before .before .before .before in
+    let entry = c .before .before .before .before in
     let end = c .before .loop in
-    ap length (end .inv .1 .bytes-are) ∙ length-put (take (end .i) (start .args .text .now)) (start .args .out .now) (start .args .at)
+    ap length (end .inv .1 .bytes-are) ∙ length-put (take (end .i) (entry .args .text .now)) (entry .args .out .now) (entry .args .at)
 
 returns : tie.Need-returns Inv-loop μ-loop
 returns c =

@@ -17,10 +17,13 @@ same-length c = search needs
 
 returns : tie.Need-returns
 returns c =
-    let start = c .before .before .before .before .before .before .before .before .before in
+    let entry = c .before .before .before .before .before .before .before .before .before in
     let first = c .before .before .before .before .before .before .push in
     let second = c .before .before .push-number in
-    puts-more (32 ∷ []) (decimal (start .args .n)) (start .args .out .now) (first .last .0) (second .last .0) (start .args .at) (first .result) (second .result) (first .ensures) (second .ensures)
+    let out = entry .args .out .now in
+    let at = entry .args .at in
+    puts-more (32 ∷ []) (decimal (entry .args .n)) out (first .last .0) (second .last .0) at (first .result) (second .result)
+    (first .ensures) (second .ensures)
 
 pub push-next-spec : {M : Type 1} → statement M
 push-next-spec = tie.close (tie.spec push-requires push-number-requires same-length returns)

@@ -25,12 +25,12 @@ same-length c = search needs
 returns : tie.Need-returns
 unfolding decimal
 returns c =
-    let start = c .before .before .before .before .before .before .before .before in
+    let entry = c .before .before .before .before .before .before .before .before in
     let called = c .before .before .before .before .before .decimal in
     let k = called .result in
-    let n = start .args .n in
+    let n = entry .args .n in
     let few = called .ensures .1 .0 in
-    let same : take k (called .last .1 .0) ≡ decimal n = called .ensures .1 .1 ∙ fewest-digits 20 k n (digits-fit k n (start .fits .n .fits) few) few in
+    let same : take k (called .last .1 .0) ≡ decimal n = called .ensures .1 .1 ∙ fewest-digits 20 k n (digits-fit k n (entry .fits .n .fits) few) few in
     rw same at (c .before .before .push-bytes .ensures)
 
 pub push-number-spec : {M : Type 1} → statement M

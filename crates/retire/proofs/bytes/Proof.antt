@@ -30,8 +30,9 @@ place c = (c .before .before .before .before .before .args .first .0 % largest-r
 within : (c : tie.After-lowest Inv-loop μ-loop) → c .before .before .loop .b + c .lowest .result < 64
 within c =
     let l = c .before .before in
-    let e = l .before .before .before in
-    walk-within (e .args .word) (l .loop .b) (e .fits .word .fits) (λ i. 0) (l .loop .left) (c .lowest .result) (l .loop .inv .1) (c .before .loop-test .taken) (c .lowest .ensures)
+    let entry = l .before .before .before in
+    walk-within (entry .args .word) (l .loop .b) (entry .fits .word .fits) (λ i. 0) (l .loop .left) (c .lowest .result)
+    (l .loop .inv .1) (c .before .loop-test .taken) (c .lowest .ensures)
 
 loop-holds : tie.Need-loop-holds Inv-loop μ-loop
 unfolding total
@@ -79,12 +80,12 @@ loop-less c = omega (arith, within (c .before))
 loop-again : tie.Need-loop-again Inv-loop μ-loop
 loop-again c =
     let l = c .before .before .before in
-    let e = l .before .before .before in
-    let word = e .args .word in
+    let entry = l .before .before .before in
+    let word = entry .args .word in
     let b = l .loop .b in
     let t = c .before .lowest .result in
-    let g = sizeAt (e .args .sizes .now) (e .args .first .0 % largest-room) in
-    let small = e .fits .word .fits in (
+    let g = sizeAt (entry .args .sizes .now) (entry .args .first .0 % largest-room) in
+    let small = entry .fits .word .fits in (
       omega (arith, within (c .before)),
       walk-left word b small g (l .loop .left) t (l .loop .inv .1) (c .before .before .loop-test .taken) (c .before .lowest .ensures),
       ap (λ (x : ℕ). x + g (b + t)) (l .loop .inv .2)
@@ -95,12 +96,14 @@ loop-again c =
 returns : tie.Need-returns Inv-loop μ-loop
 returns c =
     let l = c .before in
-    let e = l .before .before .before in
-    let sizes = e .args .sizes .now in
-    let first = e .args .first .0 in
+    let entry = l .before .before .before in
+    let word = entry .args .word in
+    let sizes = entry .args .sizes .now in
+    let first = entry .args .first .0 in
+    let none-left = sym (l .loop .inv .1) ∙ c .loop-test .left in
     l .loop .inv .2
-    ∙ sym (walk-ends (e .args .word) (l .loop .b) (e .fits .word .fits) (sizeAt sizes (first % largest-room)) (sym (l .loop .inv .1) ∙ c .loop-test .left) (l .loop .inv .0))
-    ∙ total-same 64 _ _ (λ i h. ap (λ (k : ℕ). cond (bitAt (e .args .word) i) (getD sizes k 0) 0) (size-low first i))
+    ∙ sym (walk-ends word (l .loop .b) (entry .fits .word .fits) (sizeAt sizes (first % largest-room)) none-left (l .loop .inv .0))
+    ∙ total-same 64 _ _ (λ i h. ap (λ (k : ℕ). cond (bitAt word i) (getD sizes k 0) 0) (size-low first i))
 
 pub bytes-spec : {M : Type 1} → statement M
 bytes-spec =

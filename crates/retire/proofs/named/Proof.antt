@@ -27,22 +27,26 @@ range-requires : tie.Need-range-requires
 range-requires c κs = search needs
 
 placed-requires : tie.Need-placed-requires
-placed-requires c κs = omega (arith, c .before .distance .ensures, distance-lt (c .before .before .before .before .args .block .base .0) (c .before .before .after .result .0))
+placed-requires c κs =
+    let entry = c .before .before .before .before in
+    omega (arith, c .before .distance .ensures, distance-lt (entry .args .block .base .0) (c .before .before .after .result .0))
 
 returns : tie.Need-returns
 unfolding names has-bit
 returns c =
     λ b l.
-    let e = c .before .before .before .before .before in
-    let first = e .args .first .0 in
-    let base = e .args .block .base .0 in
-    let at = 64 * e .args .j in
-    let q-is : c .before .before .distance .result ≡ distance base (after first at) = c .before .before .distance .ensures ∙ ap (distance base) (c .before .before .before .after .ensures) in
+    let entry = c .before .before .before .before .before in
+    let first = entry .args .first .0 in
+    let base = entry .args .block .base .0 in
+    let at = 64 * entry .args .j in
+    let begins = c .before .before .before .after in
+    let q = c .before .before .distance in
+    let q-is : q .result ≡ distance base (after first at) = q .ensures ∙ ap (distance base) (begins .ensures) in
+    let d-is = ap (λ (n : ℕ). (n + b) % turn) q-is ∙ distance-on base (after first at) b ∙ ap (distance base) (after-after first at b) in
     bit-or (c .before .range .result) (c .placed .result) b
     ∙ ap₂ (λ (x y : Bool). x || y)
-    (c .before .range .ensures b l ∙ ap (λ (t : Bool). t && ltb (at + b) (e .args .upto)) (leb·zero (at + b)))
-    (c .placed .ensures b l
-    ∙ ap (bitOfBlock (e .args .block .bitmap)) (ap (λ (q : ℕ). (q + b) % turn) q-is ∙ distance-on base (after first at) b ∙ ap (distance base) (after-after first at b)))
+    (c .before .range .ensures b l ∙ ap (λ (t : Bool). t && ltb (at + b) (entry .args .upto)) (leb·zero (at + b)))
+    (c .placed .ensures b l ∙ ap (bitOfBlock (entry .args .block .bitmap)) d-is)
 
 pub named-spec : {M : Type 1} → statement M
 named-spec =

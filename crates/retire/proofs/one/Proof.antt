@@ -15,9 +15,9 @@ newly-requires c κs = search needs
 
 returns : tie.Need-returns
 returns c =
-    let e = c .before .before .before in
+    let entry = c .before .before .before in
     record {
-      retired-are = λ i h. bit-or (e .args .retired) (e .args .named) i;
+      retired-are = λ i h. bit-or (entry .args .retired) (entry .args .named) i;
       marked-are = c .before .before .without .ensures;
       fresh-are = c .before .without2 .ensures;
       counted = c .newly .ensures;

@@ -9,7 +9,10 @@ shr-result : tie.Need-shr-result
 shr-result c = search needs
 
 returns : tie.Need-returns
-returns c = λ i h. placed-up (c .before .args .bitmap) i (c .before .fits .bitmap .fits) h (c .before .args .q) (c .if1 .taken)
+returns c =
+    λ i h.
+    let entry = c .before in
+    placed-up (entry .args .bitmap) i (entry .fits .bitmap .fits) h (entry .args .q) (c .if1 .taken)
 
 sub-back : tie.Need-sub-back
 sub-back c = search needs
@@ -23,14 +26,14 @@ shl-result c = search needs
 returns-2 : tie.Need-returns-2
 returns-2 c =
     λ i h.
-    let e = c .before .before in
-    placed-down (e .args .bitmap) i (e .fits .bitmap .fits) h (e .args .q) _ (e .pre) refl (c .if2 .taken)
+    let entry = c .before .before in
+    placed-down (entry .args .bitmap) i (entry .fits .bitmap .fits) h (entry .args .q) _ (entry .pre) refl (c .if2 .taken)
 
 returns-3 : tie.Need-returns-3
 returns-3 c =
     λ i h.
-    let e = c .before .before in
-    placed-off (e .args .bitmap) i (e .fits .bitmap .fits) h (e .args .q) (e .pre) (c .before .if1 .left) (c .if2 .left)
+    let entry = c .before .before in
+    placed-off (entry .args .bitmap) i (entry .fits .bitmap .fits) h (entry .args .q) (entry .pre) (c .before .if1 .left) (c .if2 .left)
 
 pub placed-spec : {M : Type 1} → statement M
 placed-spec =

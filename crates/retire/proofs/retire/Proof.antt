@@ -57,15 +57,15 @@ slice-write-marked c = search needs
 add-newly : tie.Need-add-newly Inv-loop μ-loop
 add-newly c =
     let l = c .before .before .before .before .before .before in
-    let e = l .before .before .before .before in
+    let entry = l .before .before .before .before in
     let named = c .before .before .named .result in
-    let f = names (e .args .first .0) (e .args .upto) (e .args .block) in
+    let f = names (entry .args .first .0) (entry .args .upto) (entry .args .block) in
     omega (
       arith,
-      e .pre .1,
+      entry .pre .1,
       l .loop .inv .within,
       l .loop .inv .counted,
-      tally-le (64 * l .loop .j) (fresh (e .args .retired .now) f),
+      tally-le (64 * l .loop .j) (fresh (entry .args .retired .now) f),
       c .before .one .ensures .counted,
       tally-le 64 (onlyIn named (getD (l .loop .retired) (l .loop .j) 0)),
     )
@@ -82,19 +82,19 @@ bytes-requires c κs = search needs
 add-sum : tie.Need-add-sum Inv-loop μ-loop
 add-sum c =
     let l = c .before .before .before .before .before .before .before .before in
-    let e = l .before .before .before .before in
-    let sizes = e .args .sizes .now in
-    let first = e .args .first .0 in
-    let f = names first (e .args .upto) (e .args .block) in
+    let entry = l .before .before .before .before in
+    let sizes = entry .args .sizes .now in
+    let first = entry .args .first .0 in
+    let f = names first (entry .args .upto) (entry .args .block) in
     let read = c .before .before .before .before .before .before .before .before .before in
     let small : (a p : ℕ) → sizeAt sizes a p ≤ 65535 = λ a p. omega (arith, read .shared-slice-known .given ((a + p) % largest-room)) in
     let start = c .before .after .result .0 in
     omega (
       arith,
-      e .pre .1,
+      entry .pre .1,
       l .loop .inv .within,
       l .loop .inv .weighed,
-      weigh-le (64 * l .loop .j) 65535 (fresh (e .args .retired .now) f) (sizeAt sizes first) (small first),
+      weigh-le (64 * l .loop .j) 65535 (fresh (entry .args .retired .now) f) (sizeAt sizes first) (small first),
       c .bytes .ensures,
       weigh-le 64 65535 (bitAt (c .before .before .before .one .result .fresh)) (sizeAt sizes start) (small start),
     )
@@ -108,14 +108,16 @@ loop-less c = search needs
 loop-again : tie.Need-loop-again Inv-loop μ-loop
 loop-again c =
     let l = c .before .before .before .before .before .before .before .before in
-    let e = l .before .before .before .before in
-    let a = e .args in
+    let entry = l .before .before .before .before in
+    let a = entry .args in
     let f = names (a .first .0) (a .upto) (a .block) in
+    let now = l .loop in
     let inside = c .before .before .before .before .before .before .before .loop-test .taken in
     let named = c .before .before .before .before .named in
     let out = c .before .before .before .one in
     let start = c .before .after in
-    upto-more (a .retired .now) (a .marked .now) (a .sizes .now) (a .first .0) f (e .pre .0) (l .loop .j) (l .loop .retired) (l .loop .marked) (l .loop .newly) (l .loop .sum) (l .loop .inv) inside
+    upto-more (a .retired .now) (a .marked .now) (a .sizes .now) (a .first .0) f (entry .pre .0)
+    (now .j) (now .retired) (now .marked) (now .newly) (now .sum) (now .inv) inside
     (named .result) (start .result .0) (c .bytes .result) (out .result) (named .ensures) (out .ensures) (start .ensures) (c .bytes .ensures)
 
 same-length : tie.Need-same-length Inv-loop μ-loop
@@ -127,10 +129,12 @@ same-length-2 c = search needs
 returns : tie.Need-returns Inv-loop μ-loop
 returns c =
     let l = c .before in
-    let e = l .before .before .before .before in
-    let a = e .args in
+    let entry = l .before .before .before .before in
+    let a = entry .args in
     let f = names (a .first .0) (a .upto) (a .block) in
-    all-retired (a .retired .now) (a .marked .now) (a .sizes .now) (a .first .0) f (e .pre .0) (l .loop .j) (l .loop .retired) (l .loop .marked) (l .loop .newly) (l .loop .sum) (l .loop .inv) (c .loop-test .left)
+    let now = l .loop in
+    all-retired (a .retired .now) (a .marked .now) (a .sizes .now) (a .first .0) f (entry .pre .0)
+    (now .j) (now .retired) (now .marked) (now .newly) (now .sum) (now .inv) (c .loop-test .left)
 
 pub retire-spec : {M : Type 1} → statement M
 retire-spec =

@@ -22,9 +22,9 @@ range-requires c κs = search needs
 returns : tie.Need-returns
 returns c =
     λ j l.
-    let e = c .before .before .before in
-    let o = e .args .o in
-    let n = e .args .n in
+    let entry = c .before .before .before in
+    let o = entry .args .o in
+    let n = entry .args .n in
     let from-is : c .before .if2 .from ≡ n - o = ⊎-elim (λ w. w .1) (λ w. w .1 ∙ omega arith) (c .before .if2 .came) in
     c .range .ensures j l ∙ ap (λ (a : ℕ). inRange a (half - o) j) from-is ∙ unsent-near o n j l (c .before .before .if1 .taken)
 
@@ -40,8 +40,8 @@ range-requires-2 c κs = search needs
 returns-2 : tie.Need-returns-2
 returns-2 c =
     λ j l.
-    let e = c .before .before in
-    c .range2 .ensures j l ∙ unsent-far (e .args .o) (e .args .n) j l (c .before .if1 .left) (e .pre .0) (e .pre .1)
+    let entry = c .before .before in
+    c .range2 .ensures j l ∙ unsent-far (entry .args .o) (entry .args .n) j l (c .before .if1 .left) (entry .pre .0) (entry .pre .1)
 
 pub unsent-bits-spec : {M : Type 1} → statement M
 unsent-bits-spec =

@@ -25,10 +25,10 @@ across-requires c κs = search needs
 returns : tie.Need-returns
 returns c =
     λ i h.
-    let e = c .before .before .before .before in
-    let p = e .args .p in
+    let entry = c .before .before .before .before in
+    let p = entry .args .p in
     c .across .ensures i h ∙ ap₂ (λ (v w : ℕ). bitOfTwo v w (p % 64 + i)) (c .before .before .word-at .ensures) (c .before .word-at2 .ensures)
-    ∙ sym (at-two (e .args .ws .now) p i h)
+    ∙ sym (at-two (entry .args .ws .now) p i h)
 
 pub block-spec : {M : Type 1} → statement M
 block-spec =

@@ -43,9 +43,9 @@ same-length c = search needs
 
 returns : tie.Need-returns
 returns c =
-    let e = c .before .before .before .before in
-    let ws = e .args .ws .now in
-    let p = e .args .p in
+    let entry = c .before .before .before .before in
+    let ws = entry .args .ws .now in
+    let p = entry .args .p in
     record {
       long = length-set ws _ _;
       bits-are = row-put (λ a b. a && not b) and-true ws p (c .clear .result) (omega arith) (c .clear .ensures);
@@ -53,8 +53,8 @@ returns c =
 
 returns-2 : tie.Need-returns-2
 returns-2 c =
-    let ws = c .before .before .args .ws .now in
-    record { long = refl; bits-are = λ k. outside ws (c .before .before .args .p) k (omega arith) }
+    let entry = c .before .before in
+    record { long = refl; bits-are = λ k. outside (entry .args .ws .now) (entry .args .p) k (omega arith) }
 
 pub clear-spec : {M : Type 1} → statement M
 clear-spec =

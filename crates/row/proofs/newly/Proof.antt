@@ -38,10 +38,12 @@ newly-requires c κs = search needs
 add-sum : tie.Need-add-sum Inv-loop μ-loop
 add-sum c =
     let l = c .before .before .before .before in
-    let vs = l .before .before .before .args .vs .now in
-    let ws = l .before .before .before .args .ws .now in
+    let entry = l .before .before .before in
+    let vs = entry .args .vs .now in
+    let ws = entry .args .ws .now in
     let j = l .loop .j in
-    omega (arith, tally-le (64 * j) (onlyIn vs ws), tally-le 64 (onlyInWord (getD vs j 0) (c .before .word-at .result)), c .newly .ensures, l .loop .inv .1)
+    let w = c .before .word-at .result in
+    omega (arith, tally-le (64 * j) (onlyIn vs ws), tally-le 64 (onlyInWord (getD vs j 0) w), c .newly .ensures, l .loop .inv .1)
 
 add-j : tie.Need-add-j Inv-loop μ-loop
 add-j c = search needs
@@ -52,8 +54,9 @@ loop-less c = search needs
 loop-again : tie.Need-loop-again Inv-loop μ-loop
 loop-again c =
     let l = c .before .before .before .before in
-    let vs = l .before .before .before .args .vs .now in
-    let ws = l .before .before .before .args .ws .now in
+    let entry = l .before .before .before in
+    let vs = entry .args .vs .now in
+    let ws = entry .args .ws .now in
     let j = l .loop .j in
     let w = c .before .word-at .result in
     let same : (b : ℕ) → b < 64 → onlyIn vs ws (64 * j + b) ≡ onlyInWord (getD vs j 0) w b =
@@ -63,9 +66,10 @@ loop-again c =
 returns : tie.Need-returns Inv-loop μ-loop
 returns c =
     let l = c .before in
-    let vs = l .before .before .before .args .vs .now in
+    let entry = l .before .before .before in
+    let vs = entry .args .vs .now in
     let j-is : l .loop .j ≡ length vs = omega arith in
-    l .loop .inv .1 ∙ ap (λ (n : ℕ). tally (64 * n) (onlyIn vs (l .before .before .before .args .ws .now))) j-is
+    l .loop .inv .1 ∙ ap (λ (n : ℕ). tally (64 * n) (onlyIn vs (entry .args .ws .now))) j-is
 
 pub newly-spec : {M : Type 1} → statement M
 newly-spec =

@@ -21,10 +21,13 @@ range-requires c κs = search needs
 returns : tie.Need-returns
 returns c =
     λ i h.
-    let e = c .before .before .before in
-    let m = 64 * e .args .j in
+    let entry = c .before .before .before in
+    let a = entry .args .a in
+    let b = entry .args .b in
+    let m = 64 * entry .args .j in
     c .range .ensures i h ∙ ap₂ (λ (x y : ℕ). inRange x y i) (c .before .before .from-word .ensures) (c .before .from-word2 .ensures)
-    ∙ ap₂ (λ (x y : Bool). x && y) (leb-same (e .args .a - m) i (e .args .a) (m + i) (λ k. omega arith) (λ k. omega arith)) (leb-same (suc i) (e .args .b - m) (suc (m + i)) (e .args .b) (λ k. omega arith) (λ k. omega arith))
+    ∙ ap₂ (λ (x y : Bool). x && y) (leb-same (a - m) i a (m + i) (λ k. omega arith) (λ k. omega arith))
+    (leb-same (suc i) (b - m) (suc (m + i)) b (λ k. omega arith) (λ k. omega arith))
 
 pub range-spec : {M : Type 1} → statement M
 range-spec = tie.close (tie.spec from-word-requires from-word-requires-2 range-requires returns)

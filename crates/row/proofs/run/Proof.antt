@@ -25,8 +25,9 @@ test-requires c κs = search needs
 returns : tie.Need-returns Inv-loop μ-loop
 returns c =
     let l = c .before .before .before in
-    let e = l .before .before in
-    first-here (isClear (e .args .ws .now)) (l .loop .p) (l .loop .inv .1) (e .args .n) (omega arith) (sym (ap not (c .before .test .ensures)) ∙ c .if1 .taken)
+    let entry = l .before .before in
+    let clear = sym (ap not (c .before .test .ensures)) ∙ c .if1 .taken in
+    first-here (isClear (entry .args .ws .now)) (l .loop .p) (l .loop .inv .1) (entry .args .n) (omega arith) clear
 
 add-p : tie.Need-add-p Inv-loop μ-loop
 add-p c = search needs
@@ -37,13 +38,14 @@ loop-less c = search needs
 loop-again : tie.Need-loop-again Inv-loop μ-loop
 loop-again c =
     let l = c .before .before .before in
-    let e = l .before .before in
-    (omega arith, none-more (isClear (e .args .ws .now)) (l .loop .p) (l .loop .inv .1) (sym (ap not (c .before .test .ensures)) ∙ c .if1 .left))
+    let entry = l .before .before in
+    let set = sym (ap not (c .before .test .ensures)) ∙ c .if1 .left in
+    (omega arith, none-more (isClear (entry .args .ws .now)) (l .loop .p) (l .loop .inv .1) set)
 
 returns-2 : tie.Need-returns-2 Inv-loop μ-loop
 returns-2 c =
-    let e = c .before .before .before in
-    first-end (isClear (e .args .ws .now)) (e .args .n) (λ k h. c .before .loop .inv .1 k (omega arith)) (e .args .n) refl
+    let entry = c .before .before .before in
+    first-end (isClear (entry .args .ws .now)) (entry .args .n) (λ k h. c .before .loop .inv .1 k (omega arith)) (entry .args .n) refl
 
 pub run-spec : {M : Type 1} → statement M
 run-spec =

@@ -51,9 +51,9 @@ same-length c = search needs
 
 returns : tie.Need-returns
 returns c =
-    let e = c .before .before .before .before in
-    let ws = e .args .ws .now in
-    let p = e .args .p in
+    let entry = c .before .before .before .before in
+    let ws = entry .args .ws .now in
+    let p = entry .args .p in
     record {
       long = length-set ws _ _;
       bits-are = λ k. row-put (λ a b. a || b) or-false ws p (c .set .result) (omega arith) (c .set .ensures) k
@@ -62,8 +62,9 @@ returns c =
 
 returns-2 : tie.Need-returns-2
 returns-2 c =
-    let ws = c .before .before .args .ws .now in
-    let p = c .before .before .args .p in
+    let entry = c .before .before in
+    let ws = entry .args .ws .now in
+    let p = entry .args .p in
     record {
       long = refl;
       bits-are = λ k. sym (ap (λ (b : Bool). at ws k || b) (outside k p (bits ws) (omega arith)) ∙ or-false (at ws k));

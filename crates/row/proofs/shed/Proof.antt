@@ -87,8 +87,9 @@ loop-less c = search needs
 loop-again : tie.Need-loop-again Inv-loop μ-loop
 loop-again c =
     let l = c .before .before in
-    let ws₀ = l .before .args .ws .now in
-    let q = l .before .args .q in
+    let entry = l .before in
+    let ws₀ = entry .args .ws .now in
+    let q = entry .args .q in
     let ws = l .loop .ws in
     let i = l .loop .i in
     let m = l .loop .inv in
@@ -102,8 +103,9 @@ same-length c = search needs
 returns : tie.Need-returns Inv-loop μ-loop
 returns c =
     let l = c .before in
+    let entry = l .before in
     let m = l .loop .inv in
-    record { long = m .long; bits-are = all-moved (l .before .args .ws .now) (l .before .args .q) (l .loop .ws) (l .loop .i) m (omega arith) }
+    record { long = m .long; bits-are = all-moved (entry .args .ws .now) (entry .args .q) (l .loop .ws) (l .loop .i) m (omega arith) }
 
 pub shed-spec : {M : Type 1} → statement M
 shed-spec =

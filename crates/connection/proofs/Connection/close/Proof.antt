@@ -29,16 +29,18 @@ refused-requires c κs = search needs
 
 returns : tie.Need-returns
 returns c =
-    let e = c .before .before .before in
-    refuses 2 (close-2 (e .args .self) (c .before .if1 .taken)) (c .refused .ensures .0) (c .refused .ensures .1) (e .pre)
+    let entry = c .before .before .before in
+    let said = c .refused .ensures in
+    refuses 2 (close-2 (entry .args .self) (c .before .if1 .taken)) (said .0) (said .1) (entry .pre)
 
 empty-requires : tie.Need-empty-requires
 empty-requires c κs = search needs
 
 returns-2 : tie.Need-returns-2
 returns-2 c =
-    let e = c .before .before .before in
-    does rule.empty answer.Closed (close-done (e .args .self) (c .before .if1 .left)) refl (ap meaning (c .empty .ensures) ∙ empty-means) (inl (c .empty .ensures))
+    let entry = c .before .before .before in
+    let emptied = c .empty .ensures in
+    does rule.empty answer.Closed (close-done (entry .args .self) (c .before .if1 .left)) refl (ap meaning emptied ∙ empty-means) (inl emptied)
 
 pub close-spec : {M : Type 1} → statement M
 close-spec = tie.close (tie.spec refused-requires returns empty-requires returns-2)

@@ -34,10 +34,11 @@ refused-requires c κs = search needs
 returns : tie.Need-returns
 returns c =
     let room = c .before .before .room-ok in
-    let e = c .before .before .before in
-    let a = e .args in
-    let bad : room-ok (a .send-room) ≡ false = fails (room .result) (room-ok (a .send-room)) (room .ensures) (c .before .if1 .taken) in
-    refuses 4 (start-4 (a .send-room) (a .send-psn) (a .receive-room) (a .receive-psn) (simp bad)) (c .refused .ensures .0) (c .refused .ensures .1) (e .pre)
+    let entry = c .before .before .before in
+    let a = entry .args in
+    let bad : room-ok (a .send-room) ≡ false = fails (room .result) _ (room .ensures) (c .before .if1 .taken) in
+    let said = c .refused .ensures in
+    refuses 4 (start-4 (a .send-room) (a .send-psn) (a .receive-room) (a .receive-psn) (simp bad)) (said .0) (said .1) (entry .pre)
 
 room-ok-requires-2 : tie.Need-room-ok-requires-2
 room-ok-requires-2 c κs = search needs
@@ -49,10 +50,11 @@ returns-2 : tie.Need-returns-2
 returns-2 c =
     let room = c .before .before .room-ok2 in
     let good = send-room (c .before .before .before) in
-    let e = c .before .before .before .before .before in
-    let a = e .args in
-    let bad : room-ok (a .receive-room) ≡ false = fails (room .result) (room-ok (a .receive-room)) (room .ensures) (c .before .if2 .taken) in
-    refuses 4 (start-4 (a .send-room) (a .send-psn) (a .receive-room) (a .receive-psn) (simp (good, bad))) (c .refused2 .ensures .0) (c .refused2 .ensures .1) (e .pre)
+    let entry = c .before .before .before .before .before in
+    let a = entry .args in
+    let bad : room-ok (a .receive-room) ≡ false = fails (room .result) _ (room .ensures) (c .before .if2 .taken) in
+    let said = c .refused2 .ensures in
+    refuses 4 (start-4 (a .send-room) (a .send-psn) (a .receive-room) (a .receive-psn) (simp (good, bad))) (said .0) (said .1) (entry .pre)
 
 psn-ok-requires : tie.Need-psn-ok-requires
 psn-ok-requires c κs = search needs
@@ -64,10 +66,14 @@ returns-3 : tie.Need-returns-3
 returns-3 c =
     let psn = c .before .before .psn-ok in
     let r = c .before .before .before in
-    let e = r .before .before .before .before in
-    let a = e .args in
-    let bad : psn-ok (a .send-psn) ≡ false = fails (psn .result) (psn-ok (a .send-psn)) (psn .ensures) (c .before .if3 .taken) in
-    refuses 5 (start-5 (a .send-room) (a .send-psn) (a .receive-room) (a .receive-psn) (simp (send-room (r .before .before), receive-room r)) (simp bad)) (c .refused3 .ensures .0) (c .refused3 .ensures .1) (e .pre)
+    let entry = r .before .before .before .before in
+    let a = entry .args in
+    let bad : psn-ok (a .send-psn) ≡ false = fails (psn .result) _ (psn .ensures) (c .before .if3 .taken) in
+    let sends = send-room (r .before .before) in
+    let receives = receive-room r in
+    let said = c .refused3 .ensures in
+    refuses 5 (start-5 (a .send-room) (a .send-psn) (a .receive-room) (a .receive-psn) (simp (sends, receives)) (simp bad))
+    (said .0) (said .1) (entry .pre)
 
 psn-ok-requires-2 : tie.Need-psn-ok-requires-2
 psn-ok-requires-2 c κs = search needs
@@ -80,10 +86,14 @@ returns-4 c =
     let psn = c .before .before .psn-ok2 in
     let s = c .before .before .before in
     let r = s .before .before in
-    let e = r .before .before .before .before in
-    let a = e .args in
-    let bad : psn-ok (a .receive-psn) ≡ false = fails (psn .result) (psn-ok (a .receive-psn)) (psn .ensures) (c .before .if4 .taken) in
-    refuses 5 (start-5 (a .send-room) (a .send-psn) (a .receive-room) (a .receive-psn) (simp (send-room (r .before .before), receive-room r)) (simp (send-psn s, bad))) (c .refused4 .ensures .0) (c .refused4 .ensures .1) (e .pre)
+    let entry = r .before .before .before .before in
+    let a = entry .args in
+    let bad : psn-ok (a .receive-psn) ≡ false = fails (psn .result) _ (psn .ensures) (c .before .if4 .taken) in
+    let sends = send-room (r .before .before) in
+    let receives = receive-room r in
+    let said = c .refused4 .ensures in
+    refuses 5 (start-5 (a .send-room) (a .send-psn) (a .receive-room) (a .receive-psn) (simp (sends, receives)) (simp (send-psn s, bad)))
+    (said .0) (said .1) (entry .pre)
 
 start-requires : tie.Need-start-requires
 start-requires c κs = search needs

@@ -32,7 +32,7 @@ enum-known-event-2 : tie.Need-enum-known-event-2
 enum-known-event-2 c = search needs
 
 send-requires : tie.Need-send-requires
-send-requires c κs = let e = c .before .before .before .before .before in sender-sound (e .args .self) (e .pre)
+send-requires c κs = let entry = c .before .before .before .before .before in sender-sound (entry .args .self) (entry .pre)
 
 sent-requires : tie.Need-sent-requires
 sent-requires c κs = search needs
@@ -41,7 +41,7 @@ enum-known-event-3 : tie.Need-enum-known-event-3
 enum-known-event-3 c = search needs
 
 arrive-requires : tie.Need-arrive-requires
-arrive-requires c κs = let e = c .before .before .before .before .before in receiver-sound (e .args .self) (e .pre)
+arrive-requires c κs = let entry = c .before .before .before .before .before in receiver-sound (entry .args .self) (entry .pre)
 
 received-requires : tie.Need-received-requires
 received-requires c κs = search needs
@@ -50,7 +50,7 @@ enum-known-event-4 : tie.Need-enum-known-event-4
 enum-known-event-4 c = search needs
 
 sack-requires : tie.Need-sack-requires
-sack-requires c κs = let e = c .before .before .before .before .before in sender-sound (e .args .self) (e .pre)
+sack-requires c κs = let entry = c .before .before .before .before .before in sender-sound (entry .args .self) (entry .pre)
 
 sent-requires-2 : tie.Need-sent-requires-2
 sent-requires-2 c κs = search needs
@@ -59,7 +59,7 @@ enum-known-event-5 : tie.Need-enum-known-event-5
 enum-known-event-5 c = search needs
 
 nack-requires : tie.Need-nack-requires
-nack-requires c κs = let e = c .before .before .before .before .before in sender-sound (e .args .self) (e .pre)
+nack-requires c κs = let entry = c .before .before .before .before .before in sender-sound (entry .args .self) (entry .pre)
 
 sent-requires-3 : tie.Need-sent-requires-3
 sent-requires-3 c κs = search needs
@@ -68,7 +68,7 @@ enum-known-event-6 : tie.Need-enum-known-event-6
 enum-known-event-6 c = search needs
 
 timer-requires : tie.Need-timer-requires
-timer-requires c κs = let e = c .before .before .before .before .before in sender-sound (e .args .self) (e .pre)
+timer-requires c κs = let entry = c .before .before .before .before .before in sender-sound (entry .args .self) (entry .pre)
 
 sent-requires-4 : tie.Need-sent-requires-4
 sent-requires-4 c κs = search needs
@@ -77,7 +77,7 @@ enum-told-2 : tie.Need-enum-told-2
 enum-told-2 c = search needs
 
 resend-requires : tie.Need-resend-requires
-resend-requires c κs = let e = c .before .before .before .before in sender-sound (e .args .self) (e .pre)
+resend-requires c κs = let entry = c .before .before .before .before in sender-sound (entry .args .self) (entry .pre)
 
 sent-requires-5 : tie.Need-sent-requires-5
 sent-requires-5 c κs = search needs
@@ -94,48 +94,67 @@ returns-3 : tie.Need-returns-3
 unfolding step meaning
 returns-3 c =
     let v = c .before .before .before .event2 .given in
-    let e = c .before .before .before .before .before .before .before in
-    let x = e .args .self in
-    by-sender x (e .pre) (room-send _ (v .0 .0)) (send-2 (x .sender) (v .0 .0)) (c .before .send .result) (ap (step (meaning x)) (v .1)) (c .sent .ensures) (c .before .send .ensures)
+    let entry = c .before .before .before .before .before .before .before in
+    let x = entry .args .self in
+    let size = v .0 .0 in
+    let out = c .before .send in
+    by-sender x (entry .pre) (room-send _ size) (send-2 (x .sender) size) (out .result)
+    (ap (step (meaning x)) (v .1)) (c .sent .ensures) (out .ensures)
 
 returns-4 : tie.Need-returns-4
 unfolding step meaning
 returns-4 c =
     let v = c .before .before .before .event3 .given in
-    let e = c .before .before .before .before .before .before .before in
-    let x = e .args .self in
-    by-receiver x (e .pre) (room-arrive _ (v .0 .0)) (arrive-2 _ (v .0 .0)) (c .before .arrive .result) (ap (step (meaning x)) (v .1)) (c .received .ensures) (c .before .arrive .ensures)
+    let entry = c .before .before .before .before .before .before .before in
+    let x = entry .args .self in
+    let a = v .0 .0 in
+    let out = c .before .arrive in
+    by-receiver x (entry .pre) (room-arrive _ a) (arrive-2 _ a) (out .result)
+    (ap (step (meaning x)) (v .1)) (c .received .ensures) (out .ensures)
 
 returns-5 : tie.Need-returns-5
 unfolding step meaning
 returns-5 c =
     let v = c .before .before .before .event4 .given in
-    let e = c .before .before .before .before .before .before .before in
-    let x = e .args .self in
-    by-sender x (e .pre) (room-sack _ (v .0 .0) (v .0 .1 .0)) (sack-2 (x .sender) (v .0 .0) (v .0 .1 .0)) (c .before .sack .result) (ap (step (meaning x)) (v .1)) (c .sent2 .ensures) (c .before .sack .ensures)
+    let entry = c .before .before .before .before .before .before .before in
+    let x = entry .args .self in
+    let cack = v .0 .0 in
+    let block = v .0 .1 .0 in
+    let out = c .before .sack in
+    by-sender x (entry .pre) (room-sack _ cack block) (sack-2 (x .sender) cack block) (out .result)
+    (ap (step (meaning x)) (v .1)) (c .sent2 .ensures) (out .ensures)
 
 returns-6 : tie.Need-returns-6
 unfolding step meaning
 returns-6 c =
     let v = c .before .before .before .event5 .given in
-    let e = c .before .before .before .before .before .before .before in
-    let x = e .args .self in
-    by-sender x (e .pre) (room-nack _ (v .0 .0) (v .0 .1 .0)) (nack-2 (x .sender) (v .0 .0) (v .0 .1 .0)) (c .before .nack .result) (ap (step (meaning x)) (v .1)) (c .sent3 .ensures) (c .before .nack .ensures)
+    let entry = c .before .before .before .before .before .before .before in
+    let x = entry .args .self in
+    let psn = v .0 .0 in
+    let reason = v .0 .1 .0 in
+    let out = c .before .nack in
+    by-sender x (entry .pre) (room-nack _ psn reason) (nack-2 (x .sender) psn reason) (out .result)
+    (ap (step (meaning x)) (v .1)) (c .sent3 .ensures) (out .ensures)
 
 returns-7 : tie.Need-returns-7
 unfolding step meaning
 returns-7 c =
     let v = c .before .before .before .event6 .given in
-    let e = c .before .before .before .before .before .before .before in
-    let x = e .args .self in
-    by-sender x (e .pre) (room-timer _ (v .0 .0)) (timer-2 (x .sender) (v .0 .0)) (c .before .timer .result) (ap (step (meaning x)) (v .1)) (c .sent4 .ensures) (c .before .timer .ensures)
+    let entry = c .before .before .before .before .before .before .before in
+    let x = entry .args .self in
+    let psn = v .0 .0 in
+    let out = c .before .timer in
+    by-sender x (entry .pre) (room-timer _ psn) (timer-2 (x .sender) psn) (out .result)
+    (ap (step (meaning x)) (v .1)) (c .sent4 .ensures) (out .ensures)
 
 returns-8 : tie.Need-returns-8
 unfolding step meaning
 returns-8 c =
-    let e = c .before .before .before .before .before .before in
-    let x = e .args .self in
-    by-sender x (e .pre) (room-resend _) (resend-2 (x .sender)) (c .before .resend .result) (ap (step (meaning x)) (c .before .before .enum-told2 .given .1)) (c .sent5 .ensures) (c .before .resend .ensures)
+    let entry = c .before .before .before .before .before .before in
+    let x = entry .args .self in
+    let out = c .before .resend in
+    by-sender x (entry .pre) (room-resend _) (resend-2 (x .sender)) (out .result)
+    (ap (step (meaning x)) (c .before .before .enum-told2 .given .1)) (c .sent5 .ensures) (out .ensures)
 
 pub step-spec : {M : Type 1} → statement M
 step-spec =

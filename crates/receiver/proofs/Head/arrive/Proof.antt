@@ -46,13 +46,15 @@ flags-good c = sym (c .before .flags-ok .ensures) ∙ not-false (c .before .flag
 abbrev judged-from : tie.After-judge → tie.Start
 judged-from c = entry (c .before .before .before .before .before .before)
 
-passes : (c : tie.After-judge) → let e = judged-from c in arrive (meaning (held-at e)) (e .args .a) ≡ judged (meaning (held-at e)) (e .args .a) (c .judge .result)
+passes : (c : tie.After-judge) → let e = judged-from c in
+    arrive (meaning (held-at e)) (e .args .a) ≡ judged (meaning (held-at e)) (e .args .a) (c .judge .result)
 passes c =
     let f = c .before .before in
     let z = f .before .before in
     let p = z .before .before in
     let e = entry p in
-    arrive-judged (meaning (held-at e)) (e .args .a) (is-used (held-at e) (e .pre)) (psn-good p) (size-good z) (flags-good f) (c .judge .result) (c .judge .ensures)
+    let used = is-used (held-at e) (e .pre) in
+    arrive-judged (meaning (held-at e)) (e .args .a) used (psn-good p) (size-good z) (flags-good f) (c .judge .result) (c .judge .ensures)
 
 -- the verdicts that are left
 not-fresh : (c : tie.At-match-keys2) → c .before .judge .result ≡ Fresh → ⊥
@@ -70,9 +72,10 @@ refused-requires c κs = search needs
 returns : tie.Need-returns
 returns c =
     let e = c .before .before .before .before .before in
+    let used = is-used (held-at e) (e .pre) in
     let psn = c .before .before .psn-ok in
     let bad = sym (psn .ensures) ∙ not-true (psn .result) (c .before .if1 .taken) in
-    stays e 5 (c .refused .result) (arrive-5 (meaning (held-at e)) (e .args .a) (is-used (held-at e) (e .pre)) bad) (c .refused .ensures)
+    stays e 5 (c .refused .result) (arrive-5 (meaning (held-at e)) (e .args .a) used bad) (c .refused .ensures)
 
 size-ok-requires : tie.Need-size-ok-requires
 size-ok-requires c κs = search needs
@@ -84,9 +87,10 @@ returns-2 : tie.Need-returns-2
 returns-2 c =
     let p = c .before .before .before in
     let e = entry p in
+    let used = is-used (held-at e) (e .pre) in
     let size = c .before .before .size-ok in
     let bad = sym (size .ensures) ∙ not-true (size .result) (c .before .if2 .taken) in
-    stays e 6 (c .refused2 .result) (arrive-6 (meaning (held-at e)) (e .args .a) (is-used (held-at e) (e .pre)) (psn-good p) bad) (c .refused2 .ensures)
+    stays e 6 (c .refused2 .result) (arrive-6 (meaning (held-at e)) (e .args .a) used (psn-good p) bad) (c .refused2 .ensures)
 
 flags-ok-requires : tie.Need-flags-ok-requires
 flags-ok-requires c κs = search needs
@@ -99,9 +103,10 @@ returns-3 c =
     let z = c .before .before .before in
     let p = z .before .before in
     let e = entry p in
+    let used = is-used (held-at e) (e .pre) in
     let flags = c .before .before .flags-ok in
     let bad = sym (flags .ensures) ∙ not-true (flags .result) (c .before .if3 .taken) in
-    stays e 14 (c .refused3 .result) (arrive-14 (meaning (held-at e)) (e .args .a) (is-used (held-at e) (e .pre)) (psn-good p) (size-good z) bad) (c .refused3 .ensures)
+    stays e 14 (c .refused3 .result) (arrive-14 (meaning (held-at e)) (e .args .a) used (psn-good p) (size-good z) bad) (c .refused3 .ensures)
 
 judge-requires : tie.Need-judge-requires
 judge-requires c κs = search needs

@@ -71,7 +71,8 @@ returns c =
     let e = entry (o .before) in
     let a = e .args .a in
     let block =
-    block-is (held-at e) (e .pre) (a .psn .0) (d .result) (o .if1 .o) (d .ensures) (begins o) (base .result) (bits .result) (base .ensures) (bits .ok) (bits .ensures) in
+    block-is (held-at e) (e .pre) (a .psn .0) (d .result) (o .if1 .o) (d .ensures) (begins o)
+    (base .result) (bits .result) (base .ensures) (bits .ok) (bits .ensures) in
     let rtx = c .before .flag .ensures in
     let mark = c .flag2 .ensures in
     λ i. record {

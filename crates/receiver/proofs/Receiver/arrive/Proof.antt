@@ -20,9 +20,10 @@ refused-requires c κs = search needs
 
 returns : tie.Need-returns
 returns c =
-    let e = c .before .before in
-    let x = e .args .self in
-    refuses 2 (arrive-2 (meaning x) (e .args .a) (is-unused (heldOf x) (c .before .if1 .taken))) (c .refused .ensures .0) (c .refused .ensures .1) (e .pre)
+    let entry = c .before .before in
+    let x = entry .args .self in
+    let said = c .refused .ensures in
+    refuses 2 (arrive-2 (meaning x) (entry .args .a) (is-unused (heldOf x) (c .before .if1 .taken))) (said .0) (said .1) (entry .pre)
 
 slice-aggregate-arrive : tie.Need-slice-aggregate-arrive
 slice-aggregate-arrive c = search needs

@@ -28,9 +28,10 @@ refused-requires c κs = search needs
 returns : tie.Need-returns
 returns c =
     let room = c .before .before .before .room-ok in
-    let e = c .before .before .before .before .args in
+    let a = c .before .before .before .before .args in
     let bad = sym (room .ensures) ∙ not-true (room .result) (c .before .before .if1 .taken) in
-    refuses 4 (start-4 (e .room) (e .first) bad) (c .refused .ensures .0) (c .refused .ensures .1 ∙ c .before .empty .ensures) (inl refl)
+    let said = c .refused .ensures in
+    refuses 4 (start-4 (a .room) (a .first) bad) (said .0) (said .1 ∙ c .before .empty .ensures) (inl refl)
 
 psn-ok-requires : tie.Need-psn-ok-requires
 psn-ok-requires c κs = search needs
@@ -45,9 +46,10 @@ returns-2 : tie.Need-returns-2
 returns-2 c =
     let psn = c .before .before .before .psn-ok in
     let r = c .before .before .before .before in
-    let e = r .before .before .args in
+    let a = r .before .before .args in
     let bad = sym (psn .ensures) ∙ not-true (psn .result) (c .before .before .if2 .taken) in
-    refuses 5 (start-5 (e .room) (e .first) (room-good r) bad) (c .refused2 .ensures .0) (c .refused2 .ensures .1 ∙ c .before .empty2 .ensures) (inl refl)
+    let said = c .refused2 .ensures in
+    refuses 5 (start-5 (a .room) (a .first) (room-good r) bad) (said .0) (said .1 ∙ c .before .empty2 .ensures) (inl refl)
 
 low-requires : tie.Need-low-requires
 low-requires c κs = search needs
@@ -59,12 +61,12 @@ returns-3 : tie.Need-returns-3
 returns-3 c =
     let psn = c .before .before .before .psn-ok in
     let r = c .before .before .before .before in
-    let e = r .before .before .args in
+    let a = r .before .before .args in
     let good = sym (psn .ensures) ∙ not-false (psn .result) (c .before .before .if2 .left) in
-    let low = ltb-true (e .first .0) turn good in
-    does (fresh (e .room) (e .first .0)) answer.Started (start-done (e .room) (e .first) (room-good r) good) refl
-    (first-means (e .room) (e .first) (c .low .result) (room-good r) low (c .low .ensures))
-    (inr (first-started (e .room) (e .first) (c .low .result) (room-good r) low (c .low .ensures)))
+    let low = ltb-true (a .first .0) turn good in
+    does (fresh (a .room) (a .first .0)) answer.Started (start-done (a .room) (a .first) (room-good r) good) refl
+    (first-means (a .room) (a .first) (c .low .result) (room-good r) low (c .low .ensures))
+    (inr (first-started (a .room) (a .first) (c .low .result) (room-good r) low (c .low .ensures)))
 
 pub start-spec : {M : Type 1} → statement M
 start-spec =

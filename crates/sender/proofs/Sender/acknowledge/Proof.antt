@@ -8,7 +8,8 @@ use Rattle.retire.specs.Rows.{names, Retires}
 use Rattle.sender.specs.declared.Sender.{Sender}
 use Rattle.sender.specs.Record.{offset}
 use Rattle.sender.proofs.Entries.{few}
-use Rattle.sender.proofs.Acknowledged.{RowsRetired, reaches, reaches-none, bytes-le, run-from, acknowledged-means, acknowledged-started, acknowledged-reports}
+use Rattle.sender.proofs.Acknowledged.{RowsRetired, reaches, reaches-none, bytes-le, run-from}
+use Rattle.sender.proofs.Acknowledged.{acknowledged-means, acknowledged-started, acknowledged-reports}
 use borrow.Author.Needs.{needs}
 use Rattle.sender.proofs.Sender.acknowledge.Statement.{statement}
 use Rattle.sender.proofs.Sender.acknowledge.Tie as tie
@@ -29,19 +30,21 @@ reach c = c .before .before .before .before .before .before .before .if1 .upto
 -- what is known once the rows are retired
 rows : (c : tie.After-retire) → RowsRetired (self c) (cack c) (block c) (reach c) (c .retire .last .0) (c .retire .last .1 .0) (c .retire .result)
 rows c =
-    let e = c .before .before .before .before .before .before .before .before .before .before .before .before in
+    let joined = c .before .before .before .before .before .before .before in
+    let entry = joined .before .before .before .before .before in
     let x = self c in
-    let d = c .before .before .before .before .before .before .before .before .distance .result in
-    let d-is = c .before .before .before .before .before .before .before .before .distance .ensures in
-    let first-is = c .before .before .before .before .before .before .before .before .before .after .ensures in
+    let d = joined .before .distance .result in
+    let d-is = joined .before .distance .ensures in
+    let first-is = joined .before .before .after .ensures in
     let R = c .retire .last .0 in
     let M = c .retire .last .1 .0 in
     record {
-      started = e .pre .0;
-      none-unsent = e .pre .1;
+      started = entry .pre .0;
+      none-unsent = entry .pre .1;
       reach = ⊎-elim (λ w. w .1 ∙ ap (λ (n : ℕ). offset x + n) (sym (reaches x (cack c) d d-is (w .0 .taken))))
-          (λ w. w .1 ∙ omega (arith, reaches-none x (cack c) d d-is (w .0 .left))) (c .before .before .before .before .before .before .before .if1 .came);
-      rows = subst (λ (a : ℕ). Retires (x .retired) (x .marked) (x .sizes) a (names a (reach c) (block c)) R M (c .retire .result)) first-is (c .retire .ensures);
+          (λ w. w .1 ∙ omega (arith, reaches-none x (cack c) d d-is (w .0 .left))) (joined .if1 .came);
+      rows = subst (λ (a : ℕ). Retires (x .retired) (x .marked) (x .sizes) a (names a (reach c) (block c)) R M (c .retire .result))
+          first-is (c .retire .ensures);
     }
 
 -- the run goes past what was retired before
@@ -65,8 +68,8 @@ distance-requires c κs = search needs
 
 add-upto : tie.Need-add-upto
 add-upto c =
-    let e = c .before .before .before .before .before in
-    omega (arith, few (e .args .self) (e .pre .0))
+    let entry = c .before .before .before .before .before in
+    omega (arith, few (entry .args .self) (entry .pre .0))
 
 slice-aggregate-retire : tie.Need-slice-aggregate-retire
 slice-aggregate-retire c = search needs
@@ -87,8 +90,8 @@ slice-aggregate-run c = search needs
 
 add-run : tie.Need-add-run
 add-run c =
-    let e = c .before .before .before .before .before .before .before .before .before .before .before .before .before .before .before in
-    omega (arith, few (e .args .self) (e .pre .0))
+    let entry = c .before .before .before .before .before .before .before .before .before .before .before .before .before .before .before in
+    omega (arith, few (entry .args .self) (entry .pre .0))
 
 run-requires : tie.Need-run-requires
 run-requires c κs = search needs

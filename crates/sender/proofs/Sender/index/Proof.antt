@@ -15,8 +15,9 @@ distance-requires c κs = search needs
 
 returns : tie.Need-returns
 returns c =
-    let e = c .before .before .before in
-    c .distance .ensures ∙ ap (λ (a : ℕ). distance a (e .args .psn .0)) (c .before .after .ensures) ∙ sym (index-is (e .args .self) (e .args .psn .0))
+    let entry = c .before .before .before in
+    let psn = entry .args .psn .0 in
+    c .distance .ensures ∙ ap (λ (a : ℕ). distance a psn) (c .before .after .ensures) ∙ sym (index-is (entry .args .self) psn)
 
 pub index-spec : {M : Type 1} → statement M
 index-spec = tie.close (tie.spec after-requires distance-requires returns)

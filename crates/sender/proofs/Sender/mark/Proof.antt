@@ -12,16 +12,17 @@ index-requires c κs = search needs
 
 returns : tie.Need-returns
 returns c =
-    let e = c .before .before .before .before .before in
-    mark-past (e .args .self) (e .pre) (e .args .psn .0) (c .before .index .result) (c .before .index .ensures) (c .if1 .taken)
+    let entry = c .before .before .before .before .before in
+    let index = c .before .index in
+    mark-past (entry .args .self) (entry .pre) (entry .args .psn .0) (index .result) (index .ensures) (c .if1 .taken)
 
 add-p : tie.Need-add-p
 add-p c = search needs
 
 add-p-2 : tie.Need-add-p-2
 add-p-2 c =
-    let e = c .before .before .before .before .before .before in
-    omega (arith, few (e .args .self) (e .pre))
+    let entry = c .before .before .before .before .before .before in
+    omega (arith, few (entry .args .self) (entry .pre))
 
 slice-aggregate-test : tie.Need-slice-aggregate-test
 slice-aggregate-test c = search needs
@@ -31,9 +32,11 @@ test-requires c κs = search needs
 
 returns-2 : tie.Need-returns-2
 returns-2 c =
-    let e = c .before .before .before .before .before .before .before .before .before in
-    let index = c .before .before .before .before .before .index in
-    mark-retired (e .args .self) (e .pre) (e .args .psn .0) (index .result) (index .ensures) (c .before .before .before .before .if1 .left) (sym (c .before .test .ensures) ∙ c .if2 .taken)
+    let first = c .before .before .before .before in
+    let index = first .before .index in
+    let entry = first .before .before .before .before .before in
+    let retired = sym (c .before .test .ensures) ∙ c .if2 .taken in
+    mark-retired (entry .args .self) (entry .pre) (entry .args .psn .0) (index .result) (index .ensures) (first .if1 .left) retired
 
 slice-aggregate-test-2 : tie.Need-slice-aggregate-test-2
 slice-aggregate-test-2 c = search needs
@@ -43,9 +46,11 @@ test-requires-2 c κs = search needs
 
 returns-3 : tie.Need-returns-3
 returns-3 c =
-    let e = c .before .before .before .before .before .before .before .before .before .before .before .before in
-    let index = c .before .before .before .before .before .before .before .before .index in
-    mark-again (e .args .self) (e .pre) (e .args .psn .0) (index .result) (index .ensures) (c .before .before .before .before .before .before .before .if1 .left) (sym (c .before .test2 .ensures) ∙ c .if3 .taken)
+    let first = c .before .before .before .before .before .before .before in
+    let index = first .before .index in
+    let entry = first .before .before .before .before .before in
+    let marked = sym (c .before .test2 .ensures) ∙ c .if3 .taken in
+    mark-again (entry .args .self) (entry .pre) (entry .args .psn .0) (index .result) (index .ensures) (first .if1 .left) marked
 
 slice-aggregate-set : tie.Need-slice-aggregate-set
 slice-aggregate-set c = search needs
@@ -58,14 +63,17 @@ with-marked-requires c κs = search needs
 
 returns-4 : tie.Need-returns-4
 returns-4 c =
-    let e = c .before .before .before .before .before .before .before .before .before .before .before .before .before .before .before .before in
-    let index = c .before .before .before .before .before .before .before .before .before .before .before .before .index in
-    let inside = c .before .before .before .before .before .before .before .before .before .before .before .if1 .left in
-    let open-there = sym (c .before .before .before .before .before .before .before .before .test .ensures) ∙ c .before .before .before .before .before .before .before .if2 .left in
-    let unmarked = sym (c .before .before .before .before .before .test2 .ensures) ∙ c .before .before .before .before .if3 .left in
+    let third = c .before .before .before .before in
+    let second = third .before .before .before in
+    let first = second .before .before .before .before in
+    let index = first .before .index in
+    let entry = first .before .before .before .before .before in
+    let open-there = sym (second .before .test .ensures) ∙ second .if2 .left in
+    let unmarked = sym (third .before .test2 .ensures) ∙ third .if3 .left in
     let set = c .before .before .set in
     let out = c .with-marked in
-    mark-new (e .args .self) (e .pre) (e .args .psn .0) (index .result) (index .ensures) inside open-there unmarked (set .last .0) (set .ensures) (out .result) (out .ensures)
+    mark-new (entry .args .self) (entry .pre) (entry .args .psn .0) (index .result) (index .ensures) (first .if1 .left)
+    open-there unmarked (set .last .0) (set .ensures) (out .result) (out .ensures)
 
 pub mark-spec : {M : Type 1} → statement M
 mark-spec =

@@ -16,9 +16,9 @@ refused-requires c κs = search needs
 
 returns : tie.Need-returns
 returns c =
-    let e = c .before .before in
+    let entry = c .before .before in
     let said = c .refused .ensures in
-    refuses 2 (nack-2 (e .args .self) (e .args .psn) (e .args .reason) (c .before .if1 .taken)) (said .0) (said .1) (e .pre)
+    refuses 2 (nack-2 (entry .args .self) (entry .args .psn) (entry .args .reason) (c .before .if1 .taken)) (said .0) (said .1) (entry .pre)
 
 psn-ok-requires : tie.Need-psn-ok-requires
 psn-ok-requires c κs = search needs
@@ -28,10 +28,11 @@ refused-requires-2 c κs = search needs
 
 returns-2 : tie.Need-returns-2
 returns-2 c =
-    let e = c .before .before .before .before in
+    let first = c .before .before .before in
+    let entry = first .before in
     let high = sym (ap not (c .before .before .psn-ok .ensures)) ∙ c .before .if2 .taken in
     let said = c .refused2 .ensures in
-    refuses 5 (nack-5 (e .args .self) (c .before .before .before .if1 .left) (e .args .psn) (e .args .reason) high) (said .0) (said .1) (e .pre)
+    refuses 5 (nack-5 (entry .args .self) (first .if1 .left) (entry .args .psn) (entry .args .reason) high) (said .0) (said .1) (entry .pre)
 
 reason-ok-requires : tie.Need-reason-ok-requires
 reason-ok-requires c κs = search needs
@@ -41,11 +42,14 @@ refused-requires-3 c κs = search needs
 
 returns-3 : tie.Need-returns-3
 returns-3 c =
-    let e = c .before .before .before .before .before .before in
-    let low = sym (ap not (c .before .before .before .before .psn-ok .ensures)) ∙ c .before .before .before .if2 .left in
+    let second = c .before .before .before in
+    let first = second .before .before in
+    let entry = first .before in
+    let a = entry .args in
+    let low = sym (ap not (second .before .psn-ok .ensures)) ∙ second .if2 .left in
     let unknown = sym (ap not (c .before .before .reason-ok .ensures)) ∙ c .before .if3 .taken in
     let said = c .refused3 .ensures in
-    refuses 15 (nack-15 (e .args .self) (c .before .before .before .before .before .if1 .left) (e .args .psn) low (e .args .reason) unknown) (said .0) (said .1) (e .pre)
+    refuses 15 (nack-15 (a .self) (first .if1 .left) (a .psn) low (a .reason) unknown) (said .0) (said .1) (entry .pre)
 
 unsent-requires : tie.Need-unsent-requires
 unsent-requires c κs = search needs
@@ -55,37 +59,48 @@ refused-requires-4 c κs = search needs
 
 returns-4 : tie.Need-returns-4
 returns-4 c =
-    let e = c .before .before .before .before .before .before .before .before in
-    let used = c .before .before .before .before .before .before .before .if1 .left in
-    let low = sym (ap not (c .before .before .before .before .before .before .psn-ok .ensures)) ∙ c .before .before .before .before .before .if2 .left in
-    let known = sym (ap not (c .before .before .before .before .reason-ok .ensures)) ∙ c .before .before .before .if3 .left in
+    let third = c .before .before .before in
+    let second = third .before .before in
+    let first = second .before .before in
+    let entry = first .before in
+    let a = entry .args in
+    let low = sym (ap not (second .before .psn-ok .ensures)) ∙ second .if2 .left in
+    let known = sym (ap not (third .before .reason-ok .ensures)) ∙ third .if3 .left in
     let is-unsent = sym (c .before .before .unsent .ensures) ∙ c .before .if4 .taken in
     let said = c .refused4 .ensures in
-    refuses 8 (nack-8 (e .args .self) used (e .args .psn) low (e .args .reason) known is-unsent) (said .0) (said .1) (e .pre)
+    refuses 8 (nack-8 (a .self) (first .if1 .left) (a .psn) low (a .reason) known is-unsent) (said .0) (said .1) (entry .pre)
 
 returns-5 : tie.Need-returns-5
 returns-5 c =
-    let e = c .before .before .before .before .before .before .before .before in
-    let used = c .before .before .before .before .before .before .before .if1 .left in
-    let low = sym (ap not (c .before .before .before .before .before .before .psn-ok .ensures)) ∙ c .before .before .before .before .before .if2 .left in
-    let known = sym (ap not (c .before .before .before .before .reason-ok .ensures)) ∙ c .before .before .before .if3 .left in
+    let third = c .before .before .before in
+    let second = third .before .before in
+    let first = second .before .before in
+    let entry = first .before in
+    let a = entry .args in
+    let used = first .if1 .left in
+    let low = sym (ap not (second .before .psn-ok .ensures)) ∙ second .if2 .left in
+    let known = sym (ap not (third .before .reason-ok .ensures)) ∙ third .if3 .left in
     let is-sent = sym (c .before .before .unsent .ensures) ∙ c .before .if4 .left in
-    does _ _ (nack-none (e .args .self) used (e .args .psn) low (e .args .reason) known is-sent (c .if5 .taken)) refl refl (inr (in-use (e .args .self) (e .pre) used))
+    does _ _ (nack-none (a .self) used (a .psn) low (a .reason) known is-sent (c .if5 .taken)) refl refl (inr (in-use (a .self) (entry .pre) used))
 
 mark-requires : tie.Need-mark-requires
 mark-requires c κs =
-    let e = c .before .before .before .before .before .before .before .before in
-    in-use (e .args .self) (e .pre) (c .before .before .before .before .before .before .before .if1 .left)
+    let first = c .before .before .before .before .before .before .before in
+    let entry = first .before in
+    in-use (entry .args .self) (entry .pre) (first .if1 .left)
 
 returns-6 : tie.Need-returns-6
 returns-6 c =
-    let e = c .before .before .before .before .before .before .before .before .before .before in
-    let used = c .before .before .before .before .before .before .before .before .before .if1 .left in
-    let low = sym (ap not (c .before .before .before .before .before .before .before .before .psn-ok .ensures)) ∙ c .before .before .before .before .before .before .before .if2 .left in
-    let known = sym (ap not (c .before .before .before .before .before .before .reason-ok .ensures)) ∙ c .before .before .before .before .before .if3 .left in
-    let is-sent = sym (c .before .before .before .before .unsent .ensures) ∙ c .before .before .before .if4 .left in
-    let on = nack-on (e .args .self) used (e .args .psn) low (e .args .reason) known is-sent (c .before .before .if5 .left) in
-    marks-meet answer.Marked (e .args .self) (e .args .psn .0) _ (c .before .mark .result) on (c .before .mark .ensures)
+    let fourth = c .before .before .before in
+    let third = fourth .before .before in
+    let second = third .before .before in
+    let first = second .before .before in
+    let a = first .before .args in
+    let low = sym (ap not (second .before .psn-ok .ensures)) ∙ second .if2 .left in
+    let known = sym (ap not (third .before .reason-ok .ensures)) ∙ third .if3 .left in
+    let is-sent = sym (fourth .before .unsent .ensures) ∙ fourth .if4 .left in
+    let on = nack-on (a .self) (first .if1 .left) (a .psn) low (a .reason) known is-sent (c .before .before .if5 .left) in
+    marks-meet answer.Marked (a .self) (a .psn .0) _ (c .before .mark .result) on (c .before .mark .ensures)
 
 pub nack-spec : {M : Type 1} → statement M
 nack-spec =

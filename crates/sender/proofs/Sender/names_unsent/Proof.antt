@@ -20,8 +20,10 @@ distance-requires c κs = search needs
 
 returns : tie.Need-returns
 returns c =
-    let e = c .before .before .before .before in
-    sym (unsent-by-cack (e .args .self) (e .args .cack .0) (e .args .block) (c .before .before .distance .result) (c .before .before .distance .ensures) (c .before .if1 .taken) (c .if2 .taken))
+    let entry = c .before .before .before .before in
+    let a = entry .args in
+    let d = c .before .before .distance in
+    sym (unsent-by-cack (a .self) (a .cack .0) (a .block) (d .result) (d .ensures) (c .before .if1 .taken) (c .if2 .taken))
 
 after-requires : tie.Need-after-requires
 after-requires c κs = search needs
@@ -31,19 +33,24 @@ distance-requires-2 c κs = search needs
 
 unsent-bits-requires : tie.Need-unsent-bits-requires
 unsent-bits-requires c κs =
-    let e = c .before .before .before .before .before .before in
-    (omega (arith, c .distance2 .ensures, distance-lt (c .before .after .result .0) (e .args .block .base .0)), omega (arith, few (e .args .self) (e .pre)))
+    let entry = c .before .before .before .before .before .before in
+    let base = entry .args .block .base .0 in
+    (omega (arith, c .distance2 .ensures, distance-lt (c .before .after .result .0) base), omega (arith, few (entry .args .self) (entry .pre)))
 
 returns-2 : tie.Need-returns-2
 returns-2 c =
-    let e = c .before .before .before .before .before .before .before .before in
-    let x = e .args .self in
-    let block = e .args .block in
-    let d = c .before .before .before .before .before .before .distance .result in
+    let joined = c .before .before .before .before .before in
+    let entry = joined .before .before .before in
+    let x = entry .args .self in
+    let block = entry .args .block in
+    let d = joined .before .distance .result in
+    let o = c .before .before .distance2 in
     let mask = c .before .unsent-bits .result in
-    let not-past : x .outstanding < d → d < half → ⊥ = λ h l. ⊎-elim (λ w. omega (arith, w .1 .left)) (λ w. omega (arith, w .left)) (c .before .before .before .before .before .if1 .came) in
-    unsent-by-bit x (e .args .cack .0) block d (c .before .before .before .before .before .before .distance .ensures) not-past (c .before .before .distance2 .result) (bitAnd (block .bitmap) mask)
-    (c .before .before .distance2 .ensures ∙ ap (λ (a : ℕ). distance a (block .base .0)) (c .before .before .before .after .ensures)) (omega (arith, and-le-l (block .bitmap) mask))
+    let not-past : x .outstanding < d → d < half → ⊥ =
+    λ h l. ⊎-elim (λ w. omega (arith, w .1 .left)) (λ w. omega (arith, w .left)) (joined .if1 .came) in
+    let o-is = o .ensures ∙ ap (λ (a : ℕ). distance a (block .base .0)) (c .before .before .before .after .ensures) in
+    unsent-by-bit x (entry .args .cack .0) block d (joined .before .distance .ensures) not-past (o .result) (bitAnd (block .bitmap) mask)
+    o-is (omega (arith, and-le-l (block .bitmap) mask))
     (λ j l. bit-and (block .bitmap) mask j ∙ ap (λ (t : Bool). bitAt (block .bitmap) j && t) (c .before .unsent-bits .ensures j l))
 
 pub names-unsent-spec : {M : Type 1} → statement M

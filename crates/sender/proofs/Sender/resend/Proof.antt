@@ -26,6 +26,10 @@ Inv-loop self room place n marked s p₀ p = (s ≤ p) × NoneBelow marked p
 abbrev μ-loop : tie.MeasureT-loop
 μ-loop self room place n marked s p₀ p = s + n - p
 
+-- past the first test the record was started
+started : (c : tie.Else1 Inv-loop μ-loop) → Started (c .before .args .self)
+started c = in-use (c .before .args .self) (c .before .pre) (c .if1 .left)
+
 -- the row of marks, and the bit that the search stands at
 abbrev row-of : tie.After-test Inv-loop μ-loop → List ℕ
 row-of c = c .before .before .before .before .before .before .before .before .before .before .args .self .marked
@@ -43,36 +47,31 @@ refused-requires c κs = search needs
 
 returns : tie.Need-returns Inv-loop μ-loop
 returns c =
-    let e = c .before .before in
+    let entry = c .before .before in
     let said = c .refused .ensures in
-    refuses 2 (resend-2 (e .args .self) (c .before .if1 .taken)) (said .0) (said .1) (e .pre)
+    refuses 2 (resend-2 (entry .args .self) (c .before .if1 .taken)) (said .0) (said .1) (entry .pre)
 
 add-s : tie.Need-add-s Inv-loop μ-loop
-add-s c =
-    let e = c .before .before .before .before in
-    omega (arith, in-use (e .args .self) (e .pre) (c .before .before .before .if1 .left) .place-low)
+add-s c = omega (arith, started (c .before .before .before) .place-low)
 
 loop-holds : tie.Need-loop-holds Inv-loop μ-loop
-loop-holds c =
-    let e = c .before .before .before .before in
-    (omega arith, none-before (e .args .self) (in-use (e .args .self) (e .pre) (c .before .before .before .if1 .left)))
+loop-holds c = (omega arith, none-before _ (started (c .before .before .before)))
 
 add-if2 : tie.Need-add-if2 Inv-loop μ-loop
-add-if2 c =
-    let e = c .before .before .before .before .before in
-    omega (arith, few (e .args .self) (in-use (e .args .self) (e .pre) (c .before .before .before .before .if1 .left)))
+add-if2 c = omega (arith, few _ (started (c .before .before .before .before)))
 
 refused-requires-2 : tie.Need-refused-requires-2 Inv-loop μ-loop
 refused-requires-2 c κs = search needs
 
 returns-2 : tie.Need-returns-2 Inv-loop μ-loop
 returns-2 c =
-    let e = c .before .before .before .before .before .before .before in
-    let x = e .args .self in
+    let first = c .before .before .before .before .before .before in
+    let entry = first .before in
+    let x = entry .args .self in
     let l = c .before .before .loop in
     let is = nearest-none x (l .p) (l .inv .0) (l .inv .1) (c .before .if2 .taken) in
     let said = c .refused2 .ensures in
-    refuses 9 (resend-9 x (c .before .before .before .before .before .before .if1 .left) _ is (omega arith)) (said .0) (said .1) (e .pre)
+    refuses 9 (resend-9 x (first .if1 .left) _ is (omega arith)) (said .0) (said .1) (entry .pre)
 
 slice-aggregate-word-at : tie.Need-slice-aggregate-word-at Inv-loop μ-loop
 slice-aggregate-word-at c = search needs
@@ -84,14 +83,10 @@ word-at-requires : tie.Need-word-at-requires Inv-loop μ-loop
 word-at-requires c κs = search needs
 
 mul-p : tie.Need-mul-p Inv-loop μ-loop
-mul-p c =
-    let e = c .before .before .before .before .before .before .before .before .before in
-    omega (arith, few (e .args .self) (in-use (e .args .self) (e .pre) (c .before .before .before .before .before .before .before .before .if1 .left)))
+mul-p c = omega (arith, few _ (started (c .before .before .before .before .before .before .before .before)))
 
 add-p : tie.Need-add-p Inv-loop μ-loop
-add-p c =
-    let e = c .before .before .before .before .before .before .before .before .before in
-    omega (arith, few (e .args .self) (in-use (e .args .self) (e .pre) (c .before .before .before .before .before .before .before .before .if1 .left)))
+add-p c = omega (arith, few _ (started (c .before .before .before .before .before .before .before .before)))
 
 loop-less : tie.Need-loop-less Inv-loop μ-loop
 loop-less c = search needs
@@ -115,9 +110,7 @@ after-requires : tie.Need-after-requires Inv-loop μ-loop
 after-requires c κs = search needs
 
 add-p-2 : tie.Need-add-p-2 Inv-loop μ-loop
-add-p-2 c =
-    let e = c .before .before .before .before .before .before .before .before .before .before .before in
-    omega (arith, few (e .args .self) (in-use (e .args .self) (e .pre) (c .before .before .before .before .before .before .before .before .before .before .if1 .left)))
+add-p-2 c = omega (arith, few _ (started (c .before .before .before .before .before .before .before .before .before .before)))
 
 loop-less-2 : tie.Need-loop-less-2 Inv-loop μ-loop
 loop-less-2 c = search needs
@@ -139,13 +132,14 @@ with-marked-requires c κs = search needs
 
 returns-3 : tie.Need-returns-3 Inv-loop μ-loop
 returns-3 c =
-    let e = c .before .before .before .before .before .before .before .before .before .before .before .before .before .before .before .before in
-    let x = e .args .self in
-    let used = c .before .before .before .before .before .before .before .before .before .before .before .before .before .before .before .if1 .left in
-    let h = in-use x (e .pre) used in
-    let l = c .before .before .before .before .before .before .before .before .before .before .before .loop in
-    let more = c .before .before .before .before .before .before .before .before .before .before .if2 .left in
-    let here = sym (tested (c .before .before .before .before .before .before)) ∙ c .before .before .before .before .before .if4 .taken in
+    let found = c .before .before .before .before .before in
+    let turn = found .before .before .before .before .before in
+    let first = turn .before .before .before .before .before in
+    let x = first .before .args .self in
+    let h = started first in
+    let l = turn .before .loop in
+    let more = turn .if2 .left in
+    let here = sym (tested (found .before)) ∙ found .if4 .taken in
     let i = l .p - offset x in
     let p-is : l .p ≡ offset x + i = omega (arith, l .inv .0) in
     let inside : i < x .outstanding = omega (arith, more, l .inv .0) in
@@ -156,7 +150,8 @@ returns-3 c =
     let puts = subst (λ (p : ℕ). Puts false p (x .marked) ws) p-is (clear-puts (x .marked) ws (l .p) cleared) in
     let may = and-false (at (x .retired) (offset x + i)) in
     let out-is = c .with-marked .ensures in
-    does _ _ (resend-on x used i is inside) (ap (λ (p : ℕ). answer.Resent (psn p)) (c .before .before .before .before .after .ensures)) (ap meaning out-is ∙ put-means x h false i inside ws long may puts)
+    does _ _ (resend-on x (first .if1 .left) i is inside) (ap (λ (p : ℕ). answer.Resent (psn p)) (c .before .before .before .before .after .ensures))
+    (ap meaning out-is ∙ put-means x h false i inside ws long may puts)
     (inr (subst Started (sym out-is) (put-started x h false i inside ws long may puts)))
 
 pub resend-spec : {M : Type 1} → statement M

@@ -14,9 +14,9 @@ refused-requires c κs = search needs
 
 returns : tie.Need-returns
 returns c =
-    let e = c .before .before in
+    let entry = c .before .before in
     let said = c .refused .ensures in
-    refuses 2 (sack-2 (e .args .self) (e .args .cack) (e .args .block) (c .before .if1 .taken)) (said .0) (said .1) (e .pre)
+    refuses 2 (sack-2 (entry .args .self) (entry .args .cack) (entry .args .block) (c .before .if1 .taken)) (said .0) (said .1) (entry .pre)
 
 psn-ok-requires : tie.Need-psn-ok-requires
 psn-ok-requires c κs = search needs
@@ -26,10 +26,12 @@ refused-requires-2 c κs = search needs
 
 returns-2 : tie.Need-returns-2
 returns-2 c =
-    let e = c .before .before .before .before in
+    let first = c .before .before .before in
+    let entry = first .before in
+    let a = entry .args in
     let high = sym (ap not (c .before .before .psn-ok .ensures)) ∙ c .before .if2 .taken in
     let said = c .refused2 .ensures in
-    refuses 5 (sack-cack (e .args .self) (c .before .before .before .if1 .left) (e .args .cack) (e .args .block) high) (said .0) (said .1) (e .pre)
+    refuses 5 (sack-cack (a .self) (first .if1 .left) (a .cack) (a .block) high) (said .0) (said .1) (entry .pre)
 
 psn-ok-requires-2 : tie.Need-psn-ok-requires-2
 psn-ok-requires-2 c κs = search needs
@@ -39,44 +41,54 @@ refused-requires-3 c κs = search needs
 
 returns-3 : tie.Need-returns-3
 returns-3 c =
-    let e = c .before .before .before .before .before .before .before in
-    let low = sym (ap not (c .before .before .before .before .before .psn-ok .ensures)) ∙ c .before .before .before .before .if2 .left in
+    let second = c .before .before .before .before in
+    let first = second .before .before in
+    let entry = first .before in
+    let a = entry .args in
+    let low = sym (ap not (second .before .psn-ok .ensures)) ∙ second .if2 .left in
     let high = sym (ap not (c .before .before .psn-ok2 .ensures)) ∙ c .before .if3 .taken in
     let said = c .refused3 .ensures in
-    refuses 5 (sack-base (e .args .self) (c .before .before .before .before .before .before .if1 .left) (e .args .cack) (e .args .block) low high) (said .0) (said .1) (e .pre)
+    refuses 5 (sack-base (a .self) (first .if1 .left) (a .cack) (a .block) low high) (said .0) (said .1) (entry .pre)
 
 names-unsent-requires : tie.Need-names-unsent-requires
 names-unsent-requires c κs =
-    let e = c .before .before .before .before .before .before in
-    in-use (e .args .self) (e .pre) (c .before .before .before .before .before .if1 .left)
+    let first = c .before .before .before .before .before in
+    let entry = first .before in
+    in-use (entry .args .self) (entry .pre) (first .if1 .left)
 
 refused-requires-4 : tie.Need-refused-requires-4
 refused-requires-4 c κs = search needs
 
 returns-4 : tie.Need-returns-4
 returns-4 c =
-    let e = c .before .before .before .before .before .before .before .before .before in
-    let used = c .before .before .before .before .before .before .before .before .if1 .left in
-    let low = sym (ap not (c .before .before .before .before .before .before .before .psn-ok .ensures)) ∙ c .before .before .before .before .before .before .if2 .left in
-    let base-low = sym (ap not (c .before .before .before .before .psn-ok2 .ensures)) ∙ c .before .before .before .if3 .left in
+    let third = c .before .before .before in
+    let second = third .before .before .before in
+    let first = second .before .before in
+    let entry = first .before in
+    let a = entry .args in
+    let low = sym (ap not (second .before .psn-ok .ensures)) ∙ second .if2 .left in
+    let base-low = sym (ap not (third .before .psn-ok2 .ensures)) ∙ third .if3 .left in
     let is-unsent = sym (c .before .before .names-unsent .ensures) ∙ c .before .if4 .taken in
     let said = c .refused4 .ensures in
-    refuses 8 (sack-8 (e .args .self) used (e .args .cack) (e .args .block) low base-low is-unsent) (said .0) (said .1) (e .pre)
+    refuses 8 (sack-8 (a .self) (first .if1 .left) (a .cack) (a .block) low base-low is-unsent) (said .0) (said .1) (entry .pre)
 
 acknowledge-requires : tie.Need-acknowledge-requires
 acknowledge-requires c κs =
-    let e = c .before .before .before .before .before .before .before .before in
-    (in-use (e .args .self) (e .pre) (c .before .before .before .before .before .before .before .if1 .left), sym (c .before .names-unsent .ensures) ∙ c .if4 .left)
+    let first = c .before .before .before .before .before .before .before in
+    let entry = first .before in
+    (in-use (entry .args .self) (entry .pre) (first .if1 .left), sym (c .before .names-unsent .ensures) ∙ c .if4 .left)
 
 returns-5 : tie.Need-returns-5
 returns-5 c =
-    let e = c .before .before .before .before .before .before .before .before .before in
-    let used = c .before .before .before .before .before .before .before .before .if1 .left in
-    let low = sym (ap not (c .before .before .before .before .before .before .before .psn-ok .ensures)) ∙ c .before .before .before .before .before .before .if2 .left in
-    let base-low = sym (ap not (c .before .before .before .before .psn-ok2 .ensures)) ∙ c .before .before .before .if3 .left in
+    let third = c .before .before .before in
+    let second = third .before .before .before in
+    let first = second .before .before in
+    let a = first .before .args in
+    let low = sym (ap not (second .before .psn-ok .ensures)) ∙ second .if2 .left in
+    let base-low = sym (ap not (third .before .psn-ok2 .ensures)) ∙ third .if3 .left in
     let is-sent = sym (c .before .before .names-unsent .ensures) ∙ c .before .if4 .left in
     let done = c .acknowledge .ensures in
-    does _ _ (sack-on (e .args .self) used (e .args .cack) (e .args .block) low base-low is-sent) (done .answer-is) (done .record-is) (inr (done .started))
+    does _ _ (sack-on (a .self) (first .if1 .left) (a .cack) (a .block) low base-low is-sent) (done .answer-is) (done .record-is) (inr (done .started))
 
 pub sack-spec : {M : Type 1} → statement M
 sack-spec =

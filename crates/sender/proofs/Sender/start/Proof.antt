@@ -22,10 +22,10 @@ refused-requires c κs = search needs
 
 returns : tie.Need-returns
 returns c =
-    let e = c .before .before .before .before in
+    let entry = c .before .before .before .before in
     let bad = sym (ap not (c .before .before .before .room-ok .ensures)) ∙ c .before .before .if1 .taken in
     let said = c .refused .ensures in
-    refuses 4 (start-4 (e .args .room) (e .args .first) bad) (said .0) (said .1 ∙ c .before .empty .ensures) (inl refl)
+    refuses 4 (start-4 (entry .args .room) (entry .args .first) bad) (said .0) (said .1 ∙ c .before .empty .ensures) (inl refl)
 
 psn-ok-requires : tie.Need-psn-ok-requires
 psn-ok-requires c κs = search needs
@@ -38,11 +38,12 @@ refused-requires-2 c κs = search needs
 
 returns-2 : tie.Need-returns-2
 returns-2 c =
-    let e = c .before .before .before .before .before .before in
-    let good = sym (ap not (c .before .before .before .before .before .room-ok .ensures)) ∙ c .before .before .before .before .if1 .left in
+    let rooms = c .before .before .before .before in
+    let entry = rooms .before .before in
+    let good = sym (ap not (rooms .before .room-ok .ensures)) ∙ rooms .if1 .left in
     let high = sym (ap not (c .before .before .before .psn-ok .ensures)) ∙ c .before .before .if2 .taken in
     let said = c .refused2 .ensures in
-    refuses 5 (start-5 (e .args .room) (e .args .first) good high) (said .0) (said .1 ∙ c .before .empty2 .ensures) (inl refl)
+    refuses 5 (start-5 (entry .args .room) (entry .args .first) good high) (said .0) (said .1 ∙ c .before .empty2 .ensures) (inl refl)
 
 low-requires : tie.Need-low-requires
 low-requires c κs = search needs
@@ -58,14 +59,18 @@ after-requires c κs = search needs
 
 returns-3 : tie.Need-returns-3
 returns-3 c =
-    let e = c .before .before .before .before .before .before .before in
-    let room = e .args .room in
-    let first = e .args .first in
-    let good = sym (ap not (c .before .before .before .before .before .before .room-ok .ensures)) ∙ c .before .before .before .before .before .if1 .left in
-    let low = sym (ap not (c .before .before .before .before .psn-ok .ensures)) ∙ c .before .before .before .if2 .left in
+    let psns = c .before .before .before in
+    let rooms = psns .before .before in
+    let entry = rooms .before .before in
+    let room = entry .args .room in
+    let first = entry .args .first in
+    let good = sym (ap not (rooms .before .room-ok .ensures)) ∙ rooms .if1 .left in
+    let low = sym (ap not (psns .before .psn-ok .ensures)) ∙ psns .if2 .left in
     let ok = not-false (room-ok room) good in
-    let means = begun-means room (first .0) (c .after .result) (c .before .low .result) ok (c .after .ensures) (c .before .low .ensures) in
-    let begins = begun-started room (first .0) (c .after .result) (c .before .low .result) ok (c .after .ensures) (c .before .low .ensures) in
+    let place = c .after in
+    let word = c .before .low in
+    let means = begun-means room (first .0) (place .result) (word .result) ok (place .ensures) (word .ensures) in
+    let begins = begun-started room (first .0) (place .result) (word .result) ok (place .ensures) (word .ensures) in
     does _ _ (start-on room first good low) refl means (inr begins)
 
 pub start-spec : {M : Type 1} → statement M

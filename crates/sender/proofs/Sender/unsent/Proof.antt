@@ -12,17 +12,17 @@ index-requires c κs = search needs
 
 returns : tie.Need-returns
 returns c =
-    let e = c .before .before in
-    let x = e .args .self in
+    let entry = c .before .before in
+    let x = entry .args .self in
     let i = c .before .index .result in
-    sym (unsent-is x (e .args .psn .0) i (c .before .index .ensures) ∙ sent-below x i (c .if1 .taken))
+    sym (unsent-is x (entry .args .psn .0) i (c .before .index .ensures) ∙ sent-below x i (c .if1 .taken))
 
 returns-2 : tie.Need-returns-2
 returns-2 c =
-    let e = c .before .before in
-    let x = e .args .self in
+    let entry = c .before .before in
+    let x = entry .args .self in
     let i = c .before .index .result in
-    sym (unsent-is x (e .args .psn .0) i (c .before .index .ensures) ∙ unsent-past x i (c .if1 .left) ∙ leb-not half i)
+    sym (unsent-is x (entry .args .psn .0) i (c .before .index .ensures) ∙ unsent-past x i (c .if1 .left) ∙ leb-not half i)
 
 pub unsent-spec : {M : Type 1} → statement M
 unsent-spec = tie.close (tie.spec index-requires returns returns-2)
