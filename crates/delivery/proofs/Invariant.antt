@@ -25,7 +25,7 @@ use Rattle.rules.specs.declared.Sack.{Sack}
 use Rattle.rules.specs.declared.Nack.{Nack}
 use Rattle.rules.specs.declared.Verdict.{Verdict}
 use Rattle.rules.specs.declared.Verdict.the-variants.{Fresh, Known, Beyond, NoBuffer, Trim, TrimLastHop}
-use Rattle.rules.proofs.Joined.{not-true}
+use Rattle.rules.proofs.Joined.{never-true}
 use Rattle.rules.proofs.Outcomes.{through, After, after-refuse, after-done}
 use Rattle.delivery.specs.Network.{Start, Packet, Fate, Message, Silent, Goes, Acks, Nacks, accepts, message, Note, World, begin}
 use Rattle.delivery.specs.Network.{with-sender, put, on-send, sizeOf, again, on-resend, on-timer, heard, on-hear, arrival}
@@ -105,7 +105,7 @@ inv-begin s = record {
 module _ {s : Start} {w : World} (I : Inv s w) where
   -- the next packet is not accepted
   pub not-yet : among (w .accepted) (length (w .sent)) ≡ false
-  not-yet = not-true _ (λ e. let q = I .bound (length (w .sent)) e in omega arith)
+  not-yet = never-true _ (λ e. let q = I .bound (length (w .sent)) e in omega arith)
 
   -- the sender's place is not ahead of the receiver's
   pub not-ahead : w .low ≤ w .at

@@ -18,7 +18,7 @@ use Rattle.rules.specs.Outcome.{refuse, left}
 use Rattle.rules.specs.Receiver.{Receiver, room, fresh, judge, known, beyond, verdict, accept, judged, arrive}
 use Rattle.rules.specs.Kept.{All}
 use Rattle.rules.specs.declared.Verdict.the-variants.{Fresh}
-use Rattle.rules.proofs.Joined.{not-true}
+use Rattle.rules.proofs.Joined.{never-true}
 use Rattle.rules.proofs.Lists.{in-range}
 use Rattle.delivery.specs.Network.{Start}
 use Rattle.delivery.specs.Promise.{plain, ascending}
@@ -127,7 +127,7 @@ module _ {s : Start} {A : ℕ → Bool} {r : Receiver} {at : ℕ} (H : Holds s A
   below-all : (l : List ℕ) → ((i : ℕ) → A i ≡ true → i < length l) → (j : ℕ) → only (length l) A j ≡ A j
   below-all l bound j = elim (decLt j (length l)) [
     | yes p ↦ only-in (length l) A j p
-    | no p ↦ only-out (length l) A j (omega arith) ∙ sym (not-true (A j) (λ a. let q = bound j a in omega arith))
+    | no p ↦ only-out (length l) A j (omega arith) ∙ sym (never-true (A j) (λ a. let q = bound j a in omega arith))
   ]
 
   pub in-ascending-order : (l : List ℕ) → Sizes l → ((i : ℕ) → A i ≡ true → i < length l) → r .count ≡ total A l % 2 ^ 32 → r ≡ ascending s A l

@@ -16,7 +16,7 @@ use Rattle.rules.specs.Log.{psn-width, spell, spell-all, number, number-all, hi
 
 module _ {A : Type 0} where
   -- one before a row of stores
-  pub set-before : (vs l : List A) (i j : ℕ) (x : A) → j < i → set (sets l i vs) j x ≡ sets (set l j x) i vs
+  set-before : (vs l : List A) (i j : ℕ) (x : A) → j < i → set (sets l i vs) j x ≡ sets (set l j x) i vs
   set-before [] l i j x h = refl
   set-before (a ∷ vs) l i j x h =
       set-before vs (set l i a) (suc i) j x (omega arith) ∙ ap (λ (y : List A). sets y (suc i) vs) (set-comm l i j a x (omega arith))

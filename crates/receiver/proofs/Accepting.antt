@@ -1,17 +1,18 @@
 -- A fresh packet is accepted: what setting its bit, the run of set bits and shedding whole words mean for the bits from E on. Assumes nothing.
 use mathlib.Core.Path.{_≡_, refl, sym, ap, ap₂, _∙_, subst}
-use mathlib.Core.Bool.{Bool, true, false, not, cond, _&&_, _||_, false≢true, or-true, or-false}
+use mathlib.Core.Bool.{Bool, true, false, cond, _&&_, _||_, or-true, or-false}
 use mathlib.Core.List.{List}
 use Prim.Native.Nat.{ℕ, _+_, _-_, _*_, _/_, _%_, _^_, _≤_, _<_}
 use native.Mathlib.Omega.{arith}
-use native.Mathlib.Decide.{ℕ-discrete, decLt}
+use native.Mathlib.Decide.{ℕ-discrete}
 use lib.Dec.{eqb, ltb}
 use lib.ListN.{set}
-use borrow.Author.Tests.{eq-eqb, ne-eqb, lt-ltb, not-true, not-false}
+use borrow.Author.Tests.{eq-eqb, ne-eqb, lt-ltb, not-false}
 use Rattle.psn.specs.declared.Psn.{Psn}
 use Rattle.psn.proofs.Circle.{after-lt}
 use Rattle.word.specs.Index.{First, table}
 use Rattle.word.proofs.Index.{set-table, table-same}
+use Rattle.row.proofs.Rows.{run-from, run-stops}
 use Rattle.row.specs.Row.{at, bits, Becomes, withBit, isClear}
 use Rattle.rules.specs.Numbers.{turn, after, distance}
 use Rattle.rules.specs.Lists.{lead, slide}
@@ -48,19 +49,11 @@ module _ (x : Held) (h : Started x) (d : ℕ) (l : d < x .head .room)
 
   -- t is the lowest clear bit
   module _ (t : ℕ) (run : First (isClear us) (offset x + x .head .room) t) where
-    pub run-from : offset x ≤ t
-    run-from = pick (decLt t (offset x))
-      where
-        pick : Dec (t < offset x) → offset x ≤ t
-        pick (yes k) = absurd (false≢true (sym (ap not (us-before t k)) ∙ run .here (omega arith)))
-        pick (no k) = omega arith
+    pub past-offset : offset x ≤ t
+    past-offset = run-from us (offset x) (offset x + x .head .room) t run (omega arith) us-before
 
     us-open : at us t ≡ false
-    us-open = pick (decLt t (offset x + x .head .room))
-      where
-        pick : Dec (t < offset x + x .head .room) → at us t ≡ false
-        pick (yes k) = not-true (at us t) (run .here k)
-        pick (no k) = us-past t (omega arith)
+    us-open = run-stops us (offset x + x .head .room) t run us-past
 
     -- the whole words below it go
     module _ (vs : List ℕ) (shed : Becomes us vs (λ p. at us (64 * (t / 64) + p)))
@@ -69,7 +62,7 @@ module _ (x : Held) (h : Started x) (d : ℕ) (l : d < x .head .room)
       y = held (record { room = x .head .room; expected = e; count = n }) vs
 
       offset-is : offset y ≡ t % 64
-      offset-is = ap (λ (m : ℕ). m % 64) e-is ∙ moved (x .head .expected .0) (offset x) t refl run-from
+      offset-is = ap (λ (m : ℕ). m % 64) e-is ∙ moved (x .head .expected .0) (offset x) t refl past-offset
 
       vs-at : (i : ℕ) → at vs (offset y + i) ≡ at us (t + i)
       vs-at i = shed .bits-are (offset y + i) ∙ ap (at us) (omega (arith, offset-is))
@@ -81,7 +74,7 @@ module _ (x : Held) (h : Started x) (d : ℕ) (l : d < x .head .room)
         enough = omega (arith, h .enough, put .long, shed .long);
         before = λ p k. shed .bits-are p ∙ not-false (at us (64 * (t / 64) + p)) (run .none (64 * (t / 64) + p) (omega (arith, offset-is)));
         expected-open = shed .bits-are (offset y) ∙ ap (at us) (omega (arith, offset-is)) ∙ us-open;
-        past = λ p k. shed .bits-are p ∙ us-past (64 * (t / 64) + p) (omega (arith, offset-is, run-from));
+        past = λ p k. shed .bits-are p ∙ us-past (64 * (t / 64) + p) (omega (arith, offset-is, past-offset));
       }
 
       pub accept-means : (a : Arrival) → d ≡ distance (x .head .expected .0) (a .psn .0) → n ≡ (x .head .count + a .size) % 2 ^ 32
@@ -95,9 +88,9 @@ module _ (x : Held) (h : Started x) (d : ℕ) (l : d < x .head .room)
           let w-is : w ≡ table room f =
           ap (λ (i : ℕ). set (table room (accepted x)) i true) (sym d-is) ∙ set-table room (accepted x) d true
           ∙ table-same room _ f (λ o k. sym (us-entry o k)) in
-          let lead-is : lead w ≡ m = ap lead w-is ∙ lead-table room f m (first-from (isClear us) (offset x) room t run run-from) in
+          let lead-is : lead w ≡ m = ap lead w-is ∙ lead-table room f m (first-from (isClear us) (offset x) room t run past-offset) in
           let window-is : table room (accepted y) ≡ slide (lead w) w =
-          table-same room (accepted y) (λ i. f (m + i)) (λ i k. vs-at i ∙ ap (at us) (omega (arith, run-from)))
+          table-same room (accepted y) (λ i. f (m + i)) (λ i k. vs-at i ∙ ap (at us) (omega (arith, past-offset)))
           ∙ sym (slide-table room f m (omega (arith, run .within)) (λ i k. us-past (offset x + i) (omega arith)))
           ∙ ap₂ slide (sym lead-is) (sym w-is) in
           λ i. record { expected = (e-is ∙ ap (after (x .head .expected .0)) (sym lead-is)) i; window = window-is i; count = n-is i }

@@ -1,27 +1,21 @@
 -- The first record: nothing from E on is accepted, and all before E in its block of 64 is. Assumes nothing.
 use mathlib.Core.Path.{_≡_, sym, ap, _∙_}
 use mathlib.Core.Bool.{true, false}
-use Prim.Native.Nat.{ℕ, _+_, _/_, _%_, _≤_, _<_}
+use Prim.Native.Nat.{ℕ, _+_, _%_, _≤_, _<_}
 use native.Mathlib.Omega.{arith}
 use lib.Dec.{ltb}
 use lib.ListN.{set, replicate, length-replicate}
 use borrow.Author.Tests.{lt-ltb, le-ltb}
 use Rattle.psn.specs.declared.Psn.{Psn}
-use Rattle.word.specs.Word.{bitAt, Bits}
+use Rattle.word.specs.Word.{Bits}
 use Rattle.word.proofs.Index.{is-table}
-use Rattle.word.proofs.Bits.{bit-none}
 use Rattle.row.specs.Row.{at, Row}
-use Rattle.row.proofs.Rows.{row-set}
+use Rattle.row.proofs.Rows.{row-set, at-zeros}
 use Rattle.rules.specs.Numbers.{turn, room-ok, words}
 use Rattle.rules.specs.Receiver.{fresh}
 use Rattle.rules.proofs.Lists.{getD-alike}
 use Rattle.rules.proofs.Allowed.{room-numbers}
 use Rattle.receiver.specs.Held.{Held, held, offset, accepted, meaning, Started}
-
--- a row of zeros
-at-none : (n p : ℕ) → at (replicate n 0) p ≡ false
-unfolding at
-at-none n p = ap (λ (w : ℕ). bitAt w (p % 64)) (getD-alike 0 n (p / 64)) ∙ bit-none (p % 64)
 
 module _ (room : ℕ) (first : Psn) (w : ℕ) (good : room-ok room ≡ true) (low : first .0 < turn) (bits : Bits w (λ i. ltb i (first .0 % 64))) where
   abbrev y : Held
@@ -30,7 +24,7 @@ module _ (room : ℕ) (first : Psn) (w : ℕ) (good : room-ok room ≡ true) (lo
   first-row : Row (y .words) (λ p. ltb p (offset y))
   first-row =
       row-set (replicate words 0) 0 w (λ p. ltb p (offset y)) (omega arith) (λ b k. bits b k ∙ ap (λ (p : ℕ). ltb p (offset y)) (omega arith))
-      (λ p n. at-none words p ∙ sym (le-ltb p (offset y) (omega arith)))
+      (λ p n. at-zeros words p ∙ sym (le-ltb p (offset y) (omega arith)))
 
   none-accepted : (p : ℕ) → offset y ≤ p → at (y .words) p ≡ false
   none-accepted p h = first-row p ∙ le-ltb p (offset y) h

@@ -11,23 +11,15 @@ use borrow.Author.Tests.{lt-ltb, le-ltb}
 use Rattle.psn.specs.Psn.{after}
 use Rattle.word.specs.Index.{total, weigh, tally}
 use Rattle.word.specs.Word.{bitAt, Bits, onlyIn}
-use Rattle.word.proofs.Index.{total-add, total-same, total-le}
+use Rattle.word.proofs.Index.{total-le}
 use Rattle.row.specs.Row.{at, bits, Becomes}
-use Rattle.row.proofs.Rows.{at-word, at-past, row-set, tally-word}
+use Rattle.row.proofs.Rows.{at-word, at-past, row-set, weigh-word, tally-word}
 use Rattle.retire.specs.Rows.{fresh, sizeAt, OneRetired, Retires}
 use Rattle.retire.specs.declared.Retired.{Retired}
 use Rattle.word.proofs.Compare.{leb-same}
 use Rattle.retire.proofs.Naming.{size-on}
 
 -- ---- weights
--- what passes below the end of word j, with its weight
-pub weigh-word : (f g : ℕ → Bool) (w u : ℕ → ℕ) (j : ℕ) → ((b : ℕ) → b < 64 → f (64 * j + b) ≡ g b) → ((b : ℕ) → b < 64 → w (64 * j + b) ≡ u b)
-    → weigh (64 * (j + 1)) f w ≡ weigh (64 * j) f w + weigh 64 g u
-weigh-word f g w u j e d =
-    let k : 64 * (j + 1) ≡ 64 * j + 64 = omega arith in
-    ap (λ (n : ℕ). weigh n f w) k ∙ total-add (64 * j) 64 _
-    ∙ ap (λ (x : ℕ). weigh (64 * j) f w + x) (total-same 64 _ _ (λ b l. ap₂ (λ (t : Bool) (x : ℕ). cond t x 0) (e b l) (d b l)))
-
 pub weigh-le : (n b : ℕ) (f : ℕ → Bool) (w : ℕ → ℕ) → ((i : ℕ) → w i ≤ b) → weigh n f w ≤ n * b
 weigh-le n b f w h = total-le n b (λ i. cond (f i) (w i) 0) (λ i. go i (f i))
   where

@@ -1,19 +1,19 @@
 -- The bits of a row, word by word: position p is bit p % 64 of word p / 64. Assumes nothing.
-use mathlib.Core.Path.{_≡_, sym, ap, ap₂, _∙_}
-use mathlib.Core.Bool.{Bool, false}
+use mathlib.Core.Path.{_≡_, refl, sym, ap, ap₂, _∙_}
+use mathlib.Core.Bool.{Bool, true, false, not, cond, false≢true}
 use mathlib.Core.List.{List}
 use Prim.Native.Nat.{ℕ, _+_, _-_, _*_, _/_, _%_, _≤_, _<_}
 use native.Mathlib.Omega.{arith}
 use native.Mathlib.Decide.{ℕ-discrete, decLt}
 use lib.Dec.{eqb}
-use lib.ListN.{length, getD, set, List·getD-eq-default}
+use lib.ListN.{length, getD, set, replicate, length-replicate, getD-replicate, List·getD-eq-default}
 use lib.Seq.{getD-set-same, getD-set-other}
-use borrow.Author.Tests.{eq-eqb, ne-eqb, lt-ltb, le-ltb}
-use Rattle.word.specs.Index.{tally}
+use borrow.Author.Tests.{eq-eqb, ne-eqb, lt-ltb, le-ltb, not-true}
+use Rattle.word.specs.Index.{First, weigh, tally}
 use Rattle.word.specs.Word.{bitAt, Bits, bitOfTwo}
-use Rattle.word.proofs.Index.{total-add, weigh-same}
+use Rattle.word.proofs.Index.{total-add, total-same}
 use Rattle.word.proofs.Bits.{bit-none}
-use Rattle.row.specs.Row.{at, bits, Row}
+use Rattle.row.specs.Row.{at, bits, Row, isClear}
 
 -- ---- one bit
 -- bit b of word j
@@ -74,9 +74,38 @@ row-put op idle ws p v h new =
     here b l (yes e) = eq-eqb b (p % 64) e ∙ sym (eq-eqb (64 * (p / 64) + b) p (omega arith))
     here b l (no e) = ne-eqb b (p % 64) e ∙ sym (ne-eqb (64 * (p / 64) + b) p (λ q. e (omega arith)))
 
+-- ---- a row of zeros, and a run of ones
+pub at-zeros : (n p : ℕ) → at (replicate n 0) p ≡ false
+unfolding at
+at-zeros n p = elim (decLt (p / 64) n) [
+  | yes l ↦ ap (λ (w : ℕ). bitAt w (p % 64)) (getD-replicate n (p / 64) 0 0 l) ∙ bit-none (p % 64)
+  | no l ↦ at-past (replicate n 0) p (omega (arith, length-replicate {A = ℕ} n 0))
+]
+
+-- t is the lowest clear bit below m, or m where none is
+module _ (ws : List ℕ) where
+  -- it lies past what is all set
+  pub run-from : (s m t : ℕ) → First (isClear ws) m t → s ≤ m → ((p : ℕ) → p < s → at ws p ≡ true) → s ≤ t
+  run-from s m t run h set = elim (decLt t s) [
+    | yes l ↦ absurd (false≢true (sym (ap not (set t l)) ∙ run .here (omega arith)))
+    | no l ↦ omega arith
+  ]
+
+  -- it is clear itself, where nothing from m on is set
+  pub run-stops : (m t : ℕ) → First (isClear ws) m t → ((p : ℕ) → m ≤ p → at ws p ≡ false) → at ws t ≡ false
+  run-stops m t run past = elim (decLt t m) [
+    | yes l ↦ not-true (at ws t) (run .here l)
+    | no l ↦ past t (omega arith)
+  ]
+
 -- ---- counts
--- what passes below the end of word j
+-- what passes below the end of word j, with its weight
+pub weigh-word : (f g : ℕ → Bool) (w u : ℕ → ℕ) (j : ℕ) → ((b : ℕ) → b < 64 → f (64 * j + b) ≡ g b) → ((b : ℕ) → b < 64 → w (64 * j + b) ≡ u b)
+    → weigh (64 * (j + 1)) f w ≡ weigh (64 * j) f w + weigh 64 g u
+weigh-word f g w u j e d =
+    let k : 64 * (j + 1) ≡ 64 * j + 64 = omega arith in
+    ap (λ (n : ℕ). weigh n f w) k ∙ total-add (64 * j) 64 _
+    ∙ ap (λ (x : ℕ). weigh (64 * j) f w + x) (total-same 64 _ _ (λ b l. ap₂ (λ (t : Bool) (x : ℕ). cond t x 0) (e b l) (d b l)))
+
 pub tally-word : (f g : ℕ → Bool) (j : ℕ) → ((b : ℕ) → b < 64 → f (64 * j + b) ≡ g b) → tally (64 * (j + 1)) f ≡ tally (64 * j) f + tally 64 g
-tally-word f g j h =
-    let e : 64 * (j + 1) ≡ 64 * j + 64 = omega arith in
-    ap (λ (n : ℕ). tally n f) e ∙ total-add (64 * j) 64 _ ∙ ap (λ (x : ℕ). tally (64 * j) f + x) (weigh-same 64 _ _ _ h)
+tally-word f g j h = weigh-word f g (λ i. 1) (λ i. 1) j h (λ b l. refl)

@@ -11,9 +11,9 @@ pub or-false-each : (a b : Bool) → (a || b) ≡ false → (a ≡ false) × (b 
 or-false-each false b e = (refl, e)
 or-false-each true b e = (e, cc)
 
-pub not-true : (b : Bool) → (b ≡ true → ⊥) → b ≡ false
-not-true true h = absurd (h refl)
-not-true false h = refl
+pub never-true : (b : Bool) → (b ≡ true → ⊥) → b ≡ false
+never-true true h = absurd (h refl)
+never-true false h = refl
 
 -- a choice that is not its first side is its second
 pub passed : {A : Type 0} {a o z : A} (b : Bool) → (a ≡ z → ⊥) → cond b a o ≡ z → (b ≡ false) × (o ≡ z)

@@ -8,13 +8,14 @@ use native.Mathlib.Omega.{arith}
 use native.Mathlib.Decide.{decLt}
 use lib.Dec.{ltb, leb}
 use lib.ListN.{getD, drop}
-use borrow.Author.Tests.{lt-ltb, le-ltb, le-leb, lt-leb, ltb-true, not-true, not-false}
+use borrow.Author.Tests.{lt-ltb, le-ltb, le-leb, lt-leb, ltb-true, not-false}
 use Rattle.psn.specs.declared.Psn.{Psn}
 use Rattle.psn.specs.Psn.{turn, half, after, distance}
 use Rattle.psn.proofs.Circle.{after-lt, after-after, after-turn, distance-after, ahead as ahead-by}
 use Rattle.word.specs.Index.{total, weigh, First, table}
 use Rattle.word.specs.Word.{bitAt}
 use Rattle.word.proofs.Index.{total-same, total-add, total-none, total-both, total-window, table-same, map-table, drop-table}
+use Rattle.row.proofs.Rows.{run-from, run-stops}
 use Rattle.row.specs.Row.{at, bits, isClear, Becomes}
 use Rattle.rules.specs.Numbers.{psn, size-ok, largest-room, words}
 use Rattle.rules.specs.Lists.{lead, any}
@@ -23,7 +24,7 @@ use Rattle.rules.specs.Retire.{up-to, unsent-cack, unsent-bit, names-unsent, ha
 use Rattle.rules.specs.Sender as rule
 use Rattle.rules.specs.declared.Block.{Block}
 use Rattle.rules.specs.declared.Answer.the-variants as answer
-use Rattle.rules.proofs.Joined.{and-true-each, or-false-each}
+use Rattle.rules.proofs.Joined.{and-true-each, or-false-each, never-true}
 use Rattle.retire.specs.Rows.{names, fresh, sizeAt, Retires}
 use Rattle.retire.specs.declared.Sum.{Sum}
 use Rattle.word.proofs.Compare.{leb-same}
@@ -62,10 +63,6 @@ unfolding after
 size-at-on a m i = omega arith
 
 -- ---- bits and entries
-never-true : (t : Bool) → (t ≡ true → ⊥) → t ≡ false
-never-true true n = absurd (n refl)
-never-true false n = refl
-
 -- what is named is not marked after, and what was retired was not marked before
 not-both-after : (a m n l : Bool) → (a && m) ≡ false → ((a || n && l) && (m && not n)) ≡ false
 not-both-after a m true l h = ap (λ (t : Bool). (a || l) && t) (and-false m) ∙ and-false (a || l)
@@ -257,27 +254,19 @@ module _ (x : Sender) (cack : ℕ) (b : Block) (u : ℕ) (R M : List ℕ) (out :
 
   -- ---- the place moves over the run of retired
   module _ (t : ℕ) (run : First (isClear R) (offset x + x .outstanding) t) where
-    pub run-from : offset x ≤ t
-    run-from = go (decLt t (offset x))
-      where
-        go : Dec (t < offset x) → offset x ≤ t
-        go (yes l) = absurd (false≢true (sym (ap not (R-before t l)) ∙ run .here (omega arith)))
-        go (no l) = omega arith
+    pub past-offset : offset x ≤ t
+    past-offset = run-from R (offset x) (offset x + x .outstanding) t run (omega arith) R-before
 
     R-run : (p : ℕ) → p < t → at R p ≡ true
     R-run p l = not-false (at R p) (run .none p l)
 
     R-stop : at R t ≡ false
-    R-stop = go (decLt t (offset x + x .outstanding))
-      where
-        go : Dec (t < offset x + x .outstanding) → at R t ≡ false
-        go (yes l) = not-true (at R t) (run .here l)
-        go (no l) = R-unsent t (omega arith)
+    R-stop = run-stops R (offset x + x .outstanding) t run R-unsent
 
     lead-is : lead (map is-retired (table (x .outstanding) mid)) ≡ t - offset x
     lead-is =
         ap lead (map-table is-retired (x .outstanding) mid)
-        ∙ lead-table (x .outstanding) (λ i. at R (offset x + i)) (t - offset x) (first-from (isClear R) (offset x) (x .outstanding) t run run-from)
+        ∙ lead-table (x .outstanding) (λ i. at R (offset x + i)) (t - offset x) (first-from (isClear R) (offset x) (x .outstanding) t run past-offset)
 
     -- ---- whole words go
     module _ (R″ M″ : List ℕ) (R-shed : Becomes R R″ (λ p. at R (64 * (t / 64) + p))) (M-shed : Becomes M M″ (λ p. at M (64 * (t / 64) + p)))
@@ -294,13 +283,13 @@ module _ (x : Sender) (cack : ℕ) (b : Block) (u : ℕ) (R M : List ℕ) (out :
       }
 
       offset-is : offset acknowledged ≡ t % 64
-      offset-is = ap (λ (n : ℕ). (n + 1) % 64) now-is ∙ offset-on (x .place .0) (t - offset x) ∙ back (x .place .0) t run-from
+      offset-is = ap (λ (n : ℕ). (n + 1) % 64) now-is ∙ offset-on (x .place .0) (t - offset x) ∙ back (x .place .0) t past-offset
         where
           back : (a t : ℕ) → (a + 1) % 64 ≤ t → (a + 1 + (t - (a + 1) % 64)) % 64 ≡ t % 64
           back a t l = omega arith
 
       bit-is : (i : ℕ) → 64 * (t / 64) + (offset acknowledged + i) ≡ offset x + (t - offset x + i)
-      bit-is i = omega (arith, offset-is, run-from)
+      bit-is i = omega (arith, offset-is, past-offset)
 
       entry-is : (i : ℕ) → entry acknowledged i ≡ mid (t - offset x + i)
       unfolding entry
@@ -342,9 +331,9 @@ module _ (x : Sender) (cack : ℕ) (b : Block) (u : ℕ) (R M : List ℕ) (out :
         marked-long = M-shed .long ∙ all .rows .marked-are .long ∙ h .marked-long;
         before = λ p l. R-shed .bits-are p ∙ R-run (64 * (t / 64) + p) (omega (arith, offset-is));
         first-open = R-shed .bits-are (offset acknowledged) ∙ ap (at R) open-is ∙ R-stop;
-        unsent = λ p l. R-shed .bits-are p ∙ R-unsent (64 * (t / 64) + p) (omega (arith, offset-is, run-from, run .within));
+        unsent = λ p l. R-shed .bits-are p ∙ R-unsent (64 * (t / 64) + p) (omega (arith, offset-is, past-offset, run .within));
         not-both = λ p. ap₂ (λ (s u : Bool). s && u) (R-shed .bits-are p) (M-shed .bits-are p) ∙ not-both-in (64 * (t / 64) + p);
-        mark-unsent = λ p l. M-shed .bits-are p ∙ M-unsent (64 * (t / 64) + p) (omega (arith, offset-is, run-from, run .within));
+        mark-unsent = λ p l. M-shed .bits-are p ∙ M-unsent (64 * (t / 64) + p) (omega (arith, offset-is, past-offset, run .within));
         sizes-good = λ i l. ap (λ (e : Entry). size-ok (e .size)) (entry-is i) ∙ sizes-good-of x h (t - offset x + i) (omega (arith, run .within));
         held-is = held-is;
       }

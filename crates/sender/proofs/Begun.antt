@@ -1,8 +1,8 @@
 -- A sender that was just started: the bits below place + 1's are retired, and no other bit is set. Assumes nothing.
 use mathlib.Core.Path.{_≡_, refl, sym, ap, _∙_}
-use mathlib.Core.Bool.{Bool, true, false, _&&_, and-false}
+use mathlib.Core.Bool.{Bool, true, _&&_, and-false}
 use mathlib.Core.List.{[]}
-use Prim.Native.Nat.{ℕ, _+_, _-_, _/_, _%_}
+use Prim.Native.Nat.{ℕ, _+_, _-_, _%_}
 use native.Mathlib.Omega.{arith}
 use lib.Dec.{ltb}
 use lib.ListN.{set, replicate, length-set, length-replicate}
@@ -10,20 +10,13 @@ use borrow.Author.Tests.{lt-ltb, le-ltb}
 use Rattle.psn.specs.declared.Psn.{Psn}
 use Rattle.psn.specs.Psn.{turn, after}
 use Rattle.word.specs.Index.{total, table}
-use Rattle.word.specs.Word.{bitAt, Bits}
-use Rattle.word.proofs.Bits.{bit-none}
+use Rattle.word.specs.Word.{Bits}
 use Rattle.row.specs.Row.{at, Row}
-use Rattle.row.proofs.Rows.{row-set}
+use Rattle.row.proofs.Rows.{row-set, at-zeros}
 use Rattle.rules.specs.Numbers.{room-ok, largest-room, words}
 use Rattle.rules.specs.Sender.{fresh}
-use Rattle.rules.proofs.Lists.{getD-alike}
 use Rattle.sender.specs.declared.Sender.{Sender}
 use Rattle.sender.specs.Record.{meaning, Started}
-
--- no bit is set
-zeros-at : (p : ℕ) → at (replicate words 0) p ≡ false
-unfolding at
-zeros-at p = ap (λ (w : ℕ). bitAt w (p % 64)) (getD-alike {A = ℕ} 0 words (p / 64)) ∙ bit-none (p % 64)
 
 -- the bit of the first packet number is that of the place before it and 1
 first-bit : (first : ℕ) → (after first (turn - 1) + 1) % 64 ≡ first % 64
@@ -50,7 +43,7 @@ module _ (room first : ℕ) (place : Psn) (w : ℕ)
   low-at =
       row-set (replicate words 0) 0 w (λ p. ltb p (first % 64)) (omega (arith, length-replicate {A = ℕ} words 0))
       (λ b h. low b h ∙ ap (λ (p : ℕ). ltb p (first % 64)) (omega arith))
-      (λ p n. zeros-at p ∙ sym (le-ltb p (first % 64) (omega (arith, n))))
+      (λ p n. at-zeros words p ∙ sym (le-ltb p (first % 64) (omega (arith, n))))
 
   pub begun-means : meaning begun ≡ fresh room first
   unfolding meaning fresh table
@@ -68,8 +61,8 @@ module _ (room first : ℕ) (place : Psn) (w : ℕ)
     before = λ p l. low-at p ∙ lt-ltb p (first % 64) (omega (arith, offset-is));
     first-open = low-at ((place .0 + 1) % 64) ∙ le-ltb ((place .0 + 1) % 64) (first % 64) (omega (arith, offset-is));
     unsent = λ p l. low-at p ∙ le-ltb p (first % 64) (omega (arith, offset-is));
-    not-both = λ p. ap (λ (b : Bool). at (set (replicate words 0) 0 w) p && b) (zeros-at p) ∙ and-false (at (set (replicate words 0) 0 w) p);
-    mark-unsent = λ p l. zeros-at p;
+    not-both = λ p. ap (λ (b : Bool). at (set (replicate words 0) 0 w) p && b) (at-zeros words p) ∙ and-false (at (set (replicate words 0) 0 w) p);
+    mark-unsent = λ p l. at-zeros words p;
     sizes-good = λ i l. absurd (omega arith);
     held-is = refl;
   }

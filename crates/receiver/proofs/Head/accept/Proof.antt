@@ -5,7 +5,7 @@ use borrow.Author.Needs.{needs}
 use Rattle.rules.proofs.Allowed.{room-numbers}
 use Rattle.receiver.specs.Held.{Held, held}
 use Rattle.receiver.proofs.Entries.{fresh-within}
-use Rattle.receiver.proofs.Accepting.{run-from, accept-started, accept-means}
+use Rattle.receiver.proofs.Accepting.{past-offset, accept-started, accept-means}
 use Rattle.receiver.proofs.Head.accept.Statement.{statement}
 use Rattle.receiver.proofs.Head.accept.Tie as tie
 
@@ -48,7 +48,7 @@ sub-after c =
     let set = run .before .before .before .before in
     let d = set .before in
     let e = entry d in
-    run-from (held-at e) (e .pre .0) (d .distance .result) (inside d) (set .set .last .0) (set .set .ensures) (run .run .result) (run .run .ensures)
+    past-offset (held-at e) (e .pre .0) (d .distance .result) (inside d) (set .set .last .0) (set .set .ensures) (run .run .result) (run .run .ensures)
 
 after-requires : tie.Need-after-requires
 after-requires c κs = search needs

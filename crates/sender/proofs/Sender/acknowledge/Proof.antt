@@ -8,7 +8,7 @@ use Rattle.retire.specs.Rows.{names, Retires}
 use Rattle.sender.specs.declared.Sender.{Sender}
 use Rattle.sender.specs.Record.{offset}
 use Rattle.sender.proofs.Entries.{few}
-use Rattle.sender.proofs.Acknowledged.{RowsRetired, reaches, reaches-none, bytes-le, run-from}
+use Rattle.sender.proofs.Acknowledged.{RowsRetired, reaches, reaches-none, bytes-le, past-offset}
 use Rattle.sender.proofs.Acknowledged.{acknowledged-means, acknowledged-started, acknowledged-reports}
 use borrow.Author.Needs.{needs}
 use Rattle.sender.proofs.Sender.acknowledge.Statement.{statement}
@@ -49,7 +49,7 @@ rows c =
 
 -- the run goes past what was retired before
 from : (c : tie.After-run) → offset (self (c .before .before .before .before)) ≤ c .run .result
-from c = run-from _ _ _ _ _ _ _ (rows (c .before .before .before .before)) (c .run .result) (c .run .ensures)
+from c = past-offset _ _ _ _ _ _ _ (rows (c .before .before .before .before)) (c .run .result) (c .run .ensures)
 
 add-s : tie.Need-add-s
 add-s c = search needs
