@@ -30,9 +30,9 @@ module _ (room : ℕ) (first : Psn) where
     unfolding start started refuse
     start-5 e = rw (rooms, e)
 
-    pub start-on : not (psn-ok first) ≡ false → start room first ≡ Done (fresh room (first .0)) answer.Started
+    pub start-done : not (psn-ok first) ≡ false → start room first ≡ Done (fresh room (first .0)) answer.Started
     unfolding start started refuse
-    start-on e = rw (rooms, e)
+    start-done e = rw (rooms, e)
 
 -- ---- 2, alike for every event
 module _ (x : Sender) where
@@ -80,10 +80,10 @@ module _ (x : Sender) (used : x .room ≡ 0 → ⊥) where
       unfolding send refuse
       send-7 l = rw (some-room, good, room-for, le-leb (x .room) (x .outstanding) l)
 
-      pub send-on : x .outstanding < x .room
+      pub send-done : x .outstanding < x .room
           → send (meaning x) size ≡ Done (with-entries (meaning x) (meaning x .entries ++ (new size ∷ []))) (answer.Sent (psn (next (meaning x))))
       unfolding send refuse
-      send-on l = rw (some-room, good, room-for, lt-leb (x .room) (x .outstanding) l)
+      send-done l = rw (some-room, good, room-for, lt-leb (x .room) (x .outstanding) l)
 
   -- ---- timer and NACK
   module _ (p : Psn) where
@@ -100,9 +100,9 @@ module _ (x : Sender) (used : x .room ≡ 0 → ⊥) where
       unfolding timer refuse
       timer-8 e = rw (some-room, low, e)
 
-      pub timer-on : unsent (meaning x) (p .0) ≡ false → timer (meaning x) p ≡ mark answer.Expired (meaning x) (p .0)
+      pub timer-done : unsent (meaning x) (p .0) ≡ false → timer (meaning x) p ≡ mark answer.Expired (meaning x) (p .0)
       unfolding timer refuse
-      timer-on e = rw (some-room, low, e)
+      timer-done e = rw (some-room, low, e)
 
       module _ (reason : ℕ) where
         pub nack-15 : not (reason-ok reason) ≡ true → nack (meaning x) p reason ≡ Refused 15
@@ -119,9 +119,9 @@ module _ (x : Sender) (used : x .room ≡ 0 → ⊥) where
             unfolding nack refuse
             nack-none l = rw (some-room, low, known, sent, lt-leb reason 4 l)
 
-            pub nack-on : reason ≤ 4 → nack (meaning x) p reason ≡ mark answer.Marked (meaning x) (p .0)
+            pub nack-done : reason ≤ 4 → nack (meaning x) p reason ≡ mark answer.Marked (meaning x) (p .0)
             unfolding nack refuse
-            nack-on l = rw (some-room, low, known, sent, le-leb reason 4 l)
+            nack-done l = rw (some-room, low, known, sent, le-leb reason 4 l)
 
   -- ---- resend: i entries stand before the first marked one
   module _ (i : ℕ) (is : nearest (meaning x) ≡ i) where
@@ -136,11 +136,11 @@ module _ (x : Sender) (used : x .room ≡ 0 → ⊥) where
     unfolding resend refuse
     resend-9 l = rw (some-room, none-marked, le-leb (x .outstanding) i l)
 
-    pub resend-on : i < x .outstanding
+    pub resend-done : i < x .outstanding
         → resend (meaning x) ≡ Done (with-entries (meaning x) (update (with-mark false) (meaning x .entries) i))
         (answer.Resent (psn (after (x .place .0) (1 + i))))
     unfolding resend refuse
-    resend-on l = rw (some-room, none-marked, lt-leb (x .outstanding) i l, is, place-is)
+    resend-done l = rw (some-room, none-marked, lt-leb (x .outstanding) i l, is, place-is)
 
   -- ---- SACK
   module _ (cack : Psn) (b : Block) where
@@ -158,7 +158,7 @@ module _ (x : Sender) (used : x .room ≡ 0 → ⊥) where
         unfolding sack refuse
         sack-8 e = rw (some-room, not-false (psn-ok cack) low, not-false (psn-ok (b .base)) base-low, e)
 
-        pub sack-on : names-unsent (meaning x) (cack .0) b ≡ false
+        pub sack-done : names-unsent (meaning x) (cack .0) b ≡ false
             → sack (meaning x) cack b ≡ Done (after-sack (meaning x) (cack .0) b) (report (meaning x) (cack .0) b)
         unfolding sack refuse
-        sack-on e = rw (some-room, not-false (psn-ok cack) low, not-false (psn-ok (b .base)) base-low, e)
+        sack-done e = rw (some-room, not-false (psn-ok cack) low, not-false (psn-ok (b .base)) base-low, e)

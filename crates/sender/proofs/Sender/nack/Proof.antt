@@ -5,7 +5,7 @@ use mathlib.Core.Logic.{inr}
 use Rattle.rules.specs.declared.Answer.the-variants as answer
 use Rattle.rules.proofs.Meeting.{refuses, does}
 use Rattle.sender.proofs.Entries.{in-use}
-use Rattle.sender.proofs.Ways.{nack-2, nack-5, nack-15, nack-8, nack-none, nack-on}
+use Rattle.sender.proofs.Ways.{nack-2, nack-5, nack-15, nack-8, nack-none, nack-done}
 use Rattle.sender.proofs.Marked.{marks-meet}
 use borrow.Author.Needs.{needs}
 use Rattle.sender.proofs.Sender.nack.Statement.{statement}
@@ -99,7 +99,7 @@ returns-6 c =
     let low = sym (ap not (second .before .psn-ok .ensures)) ∙ second .if2 .left in
     let known = sym (ap not (third .before .reason-ok .ensures)) ∙ third .if3 .left in
     let is-sent = sym (fourth .before .unsent .ensures) ∙ fourth .if4 .left in
-    let on = nack-on (a .self) (first .if1 .left) (a .psn) low (a .reason) known is-sent (c .before .before .if5 .left) in
+    let on = nack-done (a .self) (first .if1 .left) (a .psn) low (a .reason) known is-sent (c .before .before .if5 .left) in
     marks-meet answer.Marked (a .self) (a .psn .0) _ (c .before .mark .result) on (c .before .mark .ensures)
 
 pub nack-spec : {M : Type 1} → statement M

@@ -13,7 +13,7 @@ use Rattle.rules.specs.declared.Answer.the-variants as answer
 use Rattle.sender.specs.Record.{meaning, offset, Started}
 use Rattle.rules.proofs.Meeting.{refuses, does}
 use Rattle.sender.proofs.Entries.{few, in-use}
-use Rattle.sender.proofs.Ways.{resend-2, resend-9, resend-on}
+use Rattle.sender.proofs.Ways.{resend-2, resend-9, resend-done}
 use Rattle.sender.proofs.Marked.{Puts, clear-puts, put-means, put-started}
 use Rattle.sender.proofs.Nearest.{NoneBelow, none-before, none-in-word, nearest-none, nearest-here}
 use borrow.Author.Needs.{needs}
@@ -150,7 +150,7 @@ returns-3 c =
     let puts = subst (λ (p : ℕ). Puts false p (x .marked) ws) p-is (clear-puts (x .marked) ws (l .p) cleared) in
     let may = and-false (at (x .retired) (offset x + i)) in
     let out-is = c .with-marked .ensures in
-    does _ _ (resend-on x (first .if1 .left) i is inside) (ap (λ (p : ℕ). answer.Resent (psn p)) (c .before .before .before .before .after .ensures))
+    does _ _ (resend-done x (first .if1 .left) i is inside) (ap (λ (p : ℕ). answer.Resent (psn p)) (c .before .before .before .before .after .ensures))
     (ap meaning out-is ∙ put-means x h false i inside ws long may puts)
     (inr (subst Started (sym out-is) (put-started x h false i inside ws long may puts)))
 

@@ -4,7 +4,7 @@ use mathlib.Core.Bool.{not}
 use mathlib.Core.Logic.{inr}
 use Rattle.rules.proofs.Meeting.{refuses, does}
 use Rattle.sender.proofs.Entries.{in-use}
-use Rattle.sender.proofs.Ways.{sack-2, sack-cack, sack-base, sack-8, sack-on}
+use Rattle.sender.proofs.Ways.{sack-2, sack-cack, sack-base, sack-8, sack-done}
 use borrow.Author.Needs.{needs}
 use Rattle.sender.proofs.Sender.sack.Statement.{statement}
 use Rattle.sender.proofs.Sender.sack.Tie as tie
@@ -88,7 +88,7 @@ returns-5 c =
     let base-low = sym (ap not (third .before .psn-ok2 .ensures)) ∙ third .if3 .left in
     let is-sent = sym (c .before .before .names-unsent .ensures) ∙ c .before .if4 .left in
     let done = c .acknowledge .ensures in
-    does _ _ (sack-on (a .self) (first .if1 .left) (a .cack) (a .block) low base-low is-sent) (done .answer-is) (done .record-is) (inr (done .started))
+    does _ _ (sack-done (a .self) (first .if1 .left) (a .cack) (a .block) low base-low is-sent) (done .answer-is) (done .record-is) (inr (done .started))
 
 pub sack-spec : {M : Type 1} → statement M
 sack-spec =

@@ -10,7 +10,7 @@ use Rattle.rules.specs.declared.Answer.the-variants as answer
 use Rattle.rules.proofs.Meeting.{refuses, does}
 use Rattle.sender.specs.Record.{Started}
 use Rattle.sender.proofs.Entries.{few, held-bound, in-use, next-is}
-use Rattle.sender.proofs.Ways.{send-2, send-6, send-7, send-on}
+use Rattle.sender.proofs.Ways.{send-2, send-6, send-7, send-done}
 use Rattle.sender.proofs.Sent.{sent-means, sent-started}
 use borrow.Author.Needs.{needs}
 use Rattle.sender.proofs.Sender.send.Statement.{statement}
@@ -97,7 +97,7 @@ returns-4 c =
     let good = sym (ap not (second .before .size-ok .ensures)) ∙ second .if2 .left in
     let ok = not-false (size-ok size) good in
     let free = third .if3 .left in
-    does _ _ (send-on x (first .if1 .left) size good free) (ap (λ (p : ℕ). answer.Sent (psn p)) (c .before .after .ensures ∙ sym (next-is x)))
+    does _ _ (send-done x (first .if1 .left) size good free) (ap (λ (p : ℕ). answer.Sent (psn p)) (c .before .after .ensures ∙ sym (next-is x)))
     (sent-means x h size ok free) (inr (sent-started x h size ok free))
 
 pub send-spec : {M : Type 1} → statement M

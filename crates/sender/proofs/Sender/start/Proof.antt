@@ -5,7 +5,7 @@ use mathlib.Core.Logic.{inl, inr}
 use borrow.Author.Tests.{not-false}
 use Rattle.rules.specs.Numbers.{room-ok}
 use Rattle.rules.proofs.Meeting.{refuses, does}
-use Rattle.sender.proofs.Ways.{start-4, start-5, start-on}
+use Rattle.sender.proofs.Ways.{start-4, start-5, start-done}
 use Rattle.sender.proofs.Begun.{begun-means, begun-started}
 use borrow.Author.Needs.{needs}
 use Rattle.sender.proofs.Sender.start.Statement.{statement}
@@ -71,7 +71,7 @@ returns-3 c =
     let word = c .before .low in
     let means = begun-means room (first .0) (place .result) (word .result) ok (place .ensures) (word .ensures) in
     let begins = begun-started room (first .0) (place .result) (word .result) ok (place .ensures) (word .ensures) in
-    does _ _ (start-on room first good low) refl means (inr begins)
+    does _ _ (start-done room first good low) refl means (inr begins)
 
 pub start-spec : {M : Type 1} → statement M
 start-spec =

@@ -4,7 +4,7 @@ use mathlib.Core.Bool.{not}
 use Rattle.rules.specs.declared.Answer.the-variants as answer
 use Rattle.rules.proofs.Meeting.{refuses}
 use Rattle.sender.proofs.Entries.{in-use}
-use Rattle.sender.proofs.Ways.{timer-2, timer-5, timer-8, timer-on}
+use Rattle.sender.proofs.Ways.{timer-2, timer-5, timer-8, timer-done}
 use Rattle.sender.proofs.Marked.{marks-meet}
 use borrow.Author.Needs.{needs}
 use Rattle.sender.proofs.Sender.timer.Statement.{statement}
@@ -63,7 +63,7 @@ returns-4 c =
     let a = first .before .args in
     let low = sym (ap not (second .before .psn-ok .ensures)) ∙ second .if2 .left in
     let is-sent = sym (third .before .unsent .ensures) ∙ third .if3 .left in
-    let on = timer-on (a .self) (first .if1 .left) (a .psn) low is-sent in
+    let on = timer-done (a .self) (first .if1 .left) (a .psn) low is-sent in
     marks-meet answer.Expired (a .self) (a .psn .0) _ (c .before .mark .result) on (c .before .mark .ensures)
 
 pub timer-spec : {M : Type 1} → statement M
