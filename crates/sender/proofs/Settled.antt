@@ -43,5 +43,6 @@ module _ (x : Sender) where
   pub resend-settled : (r s : Stepped) → Allows x (resend (meaning x)) r → Allows x (resend (meaning x)) s → Same r s
   resend-settled = same x (resend (meaning x))
 
-  pub sack-settled : (cack : Psn) (block : Block) (r s : Stepped) → Allows x (sack (meaning x) cack block) r → Allows x (sack (meaning x) cack block) s → Same r s
+  pub sack-settled : (cack : Psn) (block : Block) (r s : Stepped) → Allows x (sack (meaning x) cack block) r
+      → Allows x (sack (meaning x) cack block) s → Same r s
   sack-settled cack block = same x (sack (meaning x) cack block)
