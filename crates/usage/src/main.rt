@@ -1,0 +1,60 @@
+// The library in use: a packet goes from one card to another, and its reply comes back. Nothing here needs a proof of its own.
+ghost use Rattle.connection.specs.Record.{Sound};
+use connection::Connection;
+use psn::Psn;
+use rules::Answer;
+use rules::Arrival;
+use rules::Event;
+
+// The reply reaches the card that sent: how many packets it newly retires.
+fn heard(near: Connection, reply: Answer) -> u32
+    requires { ⌜ Sound near ⌝ }
+{
+    match reply {
+        Answer::Acked(_, sack) => {
+            let cack = sack.cack;
+            let block = sack.block;
+            let out = near.step(Event::Sack { cack, block });
+            let answer = out.answer;
+            match answer {
+                Answer::Retired {
+                    newly,
+                    place: _,
+                    held: _,
+                } => newly,
+                _ => 0,
+            }
+        }
+        _ => 0,
+    }
+}
+
+// One card sends, and the other receives.
+fn exchange() -> u32 {
+    let here = Connection::start(64, Psn(10), 64, Psn(900));
+    let there = Connection::start(64, Psn(900), 64, Psn(10));
+    let near = here.record;
+    let far = there.record;
+    let sending = near.step(Event::Send { size: 100 });
+    let sent = sending.answer;
+    let after = sending.record;
+    match sent {
+        Answer::Sent(psn) => {
+            let arriving = far.step(Event::Arrive(Arrival {
+                psn,
+                size: 100,
+                flags: 0,
+                entropy: 7,
+            }));
+            let reply = arriving.answer;
+            heard(after, reply)
+        }
+        _ => 0,
+    }
+}
+
+fn main() {
+    if exchange() == 1 {
+        io::write_all(1, b"one packet retired\n");
+    }
+}
