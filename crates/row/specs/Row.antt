@@ -35,10 +35,6 @@ withoutBit ws p k = at ws k && not (eqb k p)
 abbrev pub isClear : List ℕ → ℕ → Bool
 isClear ws p = not (at ws p)
 
--- set in vs and clear in ws
-abbrev pub onlyIn : List ℕ → List ℕ → ℕ → Bool
-onlyIn vs ws p = at vs p && not (at ws p)
-
--- a row whose bits can be counted in 32 bits
+-- so many words that the position of each bit fits 32 bits
 abbrev pub longest : ℕ
 longest = 33554432

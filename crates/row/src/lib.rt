@@ -1,10 +1,10 @@
 // A row of 64-bit words, any number of them, by its bits. A bit past the end reads clear and is not written.
 ghost use mathlib.Core.Path.{_≡_};
-ghost use Prim.Native.Nat.{_+_, _-_, _*_, _≤_};
-ghost use lib.ListN.{length, getD};
-ghost use Rattle.word.specs.Index.{First, tally};
+ghost use Prim.Native.Nat.{_+_, _-_, _*_};
+ghost use lib.ListN.{getD};
+ghost use Rattle.word.specs.Index.{First};
 ghost use Rattle.word.specs.Word.{Bits, inRange};
-ghost use Rattle.row.specs.Row.{at as bitOf, bits, Becomes, withBit, withoutBit, isClear, onlyIn, longest};
+ghost use Rattle.row.specs.Row.{at as bitOf, Becomes, withBit, withoutBit, isClear};
 
 // Word j, 0 past the end.
 pub fn word_at(ws: &[u64], j: usize) -> u64
@@ -97,32 +97,4 @@ pub fn shed(ws: &mut [u64], q: usize)
         }
         i += 1;
     }
-}
-
-// How many bits are set.
-pub fn ones(ws: &[u64]) -> u32
-    requires { ⌜ length (now ws) ≤ longest ⌝ }
-    ensures { λ r. ⌜ r ≡ tally (bits (now (ws .entry))) (bitOf (now (ws .entry))) ⌝ }
-{
-    let mut sum: u32 = 0;
-    let mut j: usize = 0;
-    while j < ws.len() {
-        sum += word::ones(ws[j]);
-        j += 1;
-    }
-    sum
-}
-
-// How many bits of vs are set that are clear in ws.
-pub fn newly(vs: &[u64], ws: &[u64]) -> u32
-    requires { ⌜ length (now vs) ≤ longest ⌝ }
-    ensures { λ r. ⌜ r ≡ tally (bits (now (vs .entry))) (onlyIn (now (vs .entry)) (now (ws .entry))) ⌝ }
-{
-    let mut sum: u32 = 0;
-    let mut j: usize = 0;
-    while j < vs.len() {
-        sum += word::newly(vs[j], word_at(ws, j));
-        j += 1;
-    }
-    sum
 }

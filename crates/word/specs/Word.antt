@@ -23,6 +23,3 @@ bitOfTwo low high p = cond (ltb p 64) (bitAt low p) (bitAt high (p - 64))
 -- set in v and clear in w
 abbrev pub onlyIn : ℕ → ℕ → ℕ → Bool
 onlyIn v w i = bitAt v i && not (bitAt w i)
-
-abbrev pub isClear : ℕ → ℕ → Bool
-isClear w i = not (bitAt w i)

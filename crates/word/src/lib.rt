@@ -4,7 +4,7 @@ ghost use mathlib.Core.Bool.{not, _&&_, _||_};
 ghost use Prim.Native.Nat.{_+_, _%_, _<_};
 ghost use lib.Dec.{eqb, ltb};
 ghost use Rattle.word.specs.Index.{First, tally};
-ghost use Rattle.word.specs.Word.{bitAt, Bits, inRange, bitOfTwo, onlyIn, isClear};
+ghost use Rattle.word.specs.Word.{bitAt, Bits, inRange, bitOfTwo, onlyIn};
 
 // Whether bit i is set.
 pub fn test(w: u64, i: u32) -> bool
@@ -62,32 +62,11 @@ pub fn across(low: u64, high: u64, s: u32) -> u64
     (low >> by) | (high << (64 - by))
 }
 
-// How many set bits stand below the lowest clear one: 64 where none is clear.
-pub fn run(w: u64) -> u32
-    ensures { λ r. ⌜ First (isClear w) 64 r ⌝ }
-{
-    let mut i: u32 = 0;
-    while i < 64 {
-        if !test(w, i) {
-            return i;
-        }
-        i += 1;
-    }
-    i
-}
-
 // The index of the lowest set bit: 64 where none is set.
 pub fn lowest(w: u64) -> u32
     ensures { λ r. ⌜ First (bitAt w) 64 r ⌝ }
 {
     u64::trailing_zeros(w)
-}
-
-// How many bits are set.
-pub fn ones(w: u64) -> u32
-    ensures { λ r. ⌜ r ≡ tally 64 (bitAt w) ⌝ }
-{
-    u64::count_ones(w)
 }
 
 // How many bits of v are set that are clear in w.
