@@ -25,15 +25,6 @@ pub after-turn : (s i : ℕ) → after s (i + turn) ≡ after s i
 unfolding after
 after-turn s i = omega arith
 
--- remainders go in anywhere
-pub after-low : (p k : ℕ) → after p k ≡ (p % turn + k % turn) % turn
-unfolding after
-after-low p k = omega arith
-
-pub distance-low : (a b : ℕ) → distance a b ≡ (b % turn + (turn - a % turn)) % turn
-unfolding distance
-distance-low a b = omega arith
-
 wrapped : (n : ℕ) → n % turn % turn ≡ n % turn
 wrapped n = omega arith
 
