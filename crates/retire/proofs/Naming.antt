@@ -22,8 +22,8 @@ module _ (o n j : ℕ) (l : j < 64) where
       (leb-same (suc j) (half - o) (suc (o + j)) half (λ k. omega arith) (λ k. omega arith) ∙ sym (leb-not half (o + j)))
       ∙ ap (ahead n) e
 
-  pub unsent-far : half ≤ o → o < turn → n ≤ largest-room → inRange (turn - o + n) 64 j ≡ ahead n ((o + j) % turn)
-  unsent-far h k m = rw (lt-ltb j 64 l) (and-true (leb (turn - o + n) j) ∙ go (decLt (o + j) turn))
+  pub unsent-far : half ≤ o → o < turn → inRange (turn - o + n) 64 j ≡ ahead n ((o + j) % turn)
+  unsent-far h k = rw (lt-ltb j 64 l) (and-true (leb (turn - o + n) j) ∙ go (decLt (o + j) turn))
     where
       go : Dec (o + j < turn) → leb (turn - o + n) j ≡ ahead n ((o + j) % turn)
       go (yes b) =
@@ -33,6 +33,18 @@ module _ (o n j : ℕ) (l : j < 64) where
           let i = o + j - turn in
           let e : (o + j) % turn ≡ i = omega arith in
           rw (e, lt-leb half i (omega arith)) (leb-same (turn - o + n) j n i (λ q. omega arith) (λ q. omega arith) ∙ sym (and-true (leb n i)))
+
+-- where so many are outstanding, none is ahead
+pub unsent-none : (n i j : ℕ) → half ≤ n → bitAt 0 j ≡ ahead n i
+unsent-none n i j h = bit-none j ∙ sym (go (decLt i n))
+  where
+    go : Dec (i < n) → ahead n i ≡ false
+    go (yes l) = rw (lt-leb n i l)
+    go (no l) = rw (le-leb half i (omega arith)) (and-false (leb n i))
+
+-- the block's begin may be given by any number
+pub turned-in : (o j : ℕ) → (o % turn + j) % turn ≡ (o + j) % turn
+turned-in o j = omega arith
 
 -- ---- a block's bits in the word that begins q after its base
 module _ (b i : ℕ) (small : b < 2 ^ 64) (l : i < 64) (q : ℕ) where

@@ -16,17 +16,20 @@ use rules::LARGEST_ROOM;
 
 // The bits of a block that name unsent packet numbers: the block begins o after place + 1, and n are outstanding.
 pub fn unsent_bits(o: u32, n: u32) -> u64
-    requires { ⌜ (o < turn) × (n ≤ largest-room) ⌝ }
     ensures { λ r. ⌜ Bits r (λ j. ahead n ((o + j) % turn)) ⌝ }
 {
-    if o < HALF {
-        let mut from = 0;
-        if o < n {
-            from = n - o;
-        }
-        return word::range(from, HALF - o);
+    if HALF <= n {
+        return 0;
     }
-    word::range(TURN - o + n, 64)
+    let at = o % TURN;
+    if at < HALF {
+        let mut from = 0;
+        if at < n {
+            from = n - at;
+        }
+        return word::range(from, HALF - at);
+    }
+    word::range(TURN - at + n, 64)
 }
 
 // A block's bits as they stand in the word that begins q after the block's base.

@@ -6,10 +6,8 @@ use Prim.Native.Nat.{ℕ, _<_}
 use native.Mathlib.Omega.{arith}
 use lib.Bits.{bitAnd, and-le-l}
 use Rattle.psn.specs.Psn.{half, distance}
-use Rattle.psn.proofs.Circle.{distance-lt}
 use Rattle.word.specs.Word.{bitAt}
 use Rattle.word.proofs.Bits.{bit-and}
-use Rattle.sender.proofs.Entries.{few}
 use Rattle.sender.proofs.Judged.{unsent-by-cack, unsent-by-bit}
 use borrow.Author.Needs.{needs}
 use Rattle.sender.proofs.Sender.names_unsent.Statement.{statement}
@@ -32,10 +30,7 @@ distance-requires-2 : tie.Need-distance-requires-2
 distance-requires-2 c κs = search needs
 
 unsent-bits-requires : tie.Need-unsent-bits-requires
-unsent-bits-requires c κs =
-    let entry = c .before .before .before .before .before .before in
-    let base = entry .args .block .base .0 in
-    (omega (arith, c .distance2 .ensures, distance-lt (c .before .after .result .0) base), omega (arith, few (entry .args .self) (entry .pre)))
+unsent-bits-requires c κs = search needs
 
 returns-2 : tie.Need-returns-2
 returns-2 c =

@@ -6,7 +6,7 @@ use borrow.Author.Tests.{not-false}
 use Rattle.rules.specs.Numbers.{room-ok}
 use Rattle.rules.proofs.Meeting.{refuses, does}
 use Rattle.sender.proofs.Ways.{start-4, start-5, start-done}
-use Rattle.sender.proofs.Begun.{begun-means, begun-started}
+use Rattle.sender.proofs.Starting.{begun-means, begun-started}
 use borrow.Author.Needs.{needs}
 use Rattle.sender.proofs.Sender.start.Statement.{statement}
 use Rattle.sender.proofs.Sender.start.Tie as tie
