@@ -10,7 +10,7 @@ use Rattle.paper.specs.declared.Shown.{Shown}
 abbrev pub most : ℕ
 most = 8
 
--- a number and values, with 0 where the line has no value
+-- 01, When the card says no: "every value beside it is 0", and so is every place behind a line's last value
 abbrev pub filled : ℕ → List ℕ → Shown
 filled n l = record { number = n; many = length l; values = take most (l ++ replicate most 0) }
 

@@ -27,7 +27,7 @@ pub record Sound (x : State) : Type 0 where
   pub slots-sound : AllSound (x .table .slots)
   pub count-low : x .count ≤ x .place
 
--- a record is read: the rules' answer, and the place and the count go on
+-- "A record read gives its event, kind, body and the place after it": the rules' answer to it, and the place and the count go on
 pub record GoesOn (x : State) (slot : ℕ) (e : Event) (kind next : ℕ) (r : Turn) : Type 0 where
   pub more-is : r .more ≡ true
   pub kind-is : r .kind ≡ kind
@@ -36,7 +36,7 @@ pub record GoesOn (x : State) (slot : ℕ) (e : Event) (kind next : ℕ) (r : Tu
   pub place-is : r .state .place ≡ next
   pub count-is : r .state .count ≡ x .count + 1
 
--- nothing is read, for the reason n: everything stays, and nothing stands beside the number
+-- "on a refusal or at the end there is no event, kind .. 0": the number n alone, and the replay stays where it is
 pub record Stops (x : State) (n : ℕ) (r : Turn) : Type 0 where
   pub more-is : r .more ≡ false
   pub kind-is : r .kind ≡ 0
