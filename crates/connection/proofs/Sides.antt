@@ -14,8 +14,8 @@ use Rattle.rules.specs.declared.Answer.{Answer}
 use Rattle.rules.proofs.Meeting.{part}
 use Rattle.rules.proofs.Outcomes.{After}
 use Rattle.rules.proofs.Rooms.{SameRoom, SameSpace}
-use Rattle.word.specs.Index.{table}
-use Rattle.word.proofs.Index.{length-table}
+use Rattle.lists.specs.Index.{table}
+use Rattle.lists.proofs.Index.{length-table}
 use Rattle.sender.specs.declared.Sender.{Sender}
 use Rattle.sender.specs.declared.Stepped as sending
 use Rattle.sender.specs.Record as sender

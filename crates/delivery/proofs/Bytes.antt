@@ -9,7 +9,7 @@ use lib.Dec.{eqb}
 use lib.ListN.{length}
 use borrow.Author.Tests.{eq-eqb, ne-eqb}
 use Rattle.rules.specs.Numbers.{size-ok}
-use Rattle.rules.specs.Kept.{All}
+use Rattle.lists.specs.Lists.{All}
 use Rattle.delivery.specs.Network.{sizeOf}
 use Rattle.delivery.proofs.Sets.{plus, plus-same, plus-other}
 

@@ -13,7 +13,7 @@ use Rattle.word.specs.Word.{bitAt}
 use Rattle.rules.specs.Numbers.{turn, half, after, distance, size-ok, flags-ok}
 use Rattle.rules.specs.Outcome.{Outcome, refuse, left, answered}
 use Rattle.rules.specs.Receiver.{Receiver, judge, known, verdict, accept, sackOf, judged, arrive}
-use Rattle.rules.specs.Kept.{All}
+use Rattle.lists.specs.Lists.{All}
 use Rattle.rules.specs.declared.Arrival.{Arrival}
 use Rattle.rules.specs.declared.Sack.{Sack}
 use Rattle.rules.specs.declared.Verdict.the-variants.{Fresh, Known}

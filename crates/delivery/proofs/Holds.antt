@@ -14,13 +14,13 @@ use borrow.Author.Tests.{ltb-true, leb-false}
 use Rattle.psn.proofs.Circle.{after-zero, after-after, lands}
 use Rattle.word.specs.Word.{bitAt}
 use Rattle.rules.specs.Numbers.{turn, half, after, before, distance, trimmed, trimmed-last-hop, no-buffer}
-use Rattle.rules.specs.Lists.{lead}
+use Rattle.lists.specs.Lists.{lead}
 use Rattle.rules.specs.Receiver.{Receiver, room, unused, fresh, judge, known, beyond, verdict, accept, block-at, block, sackOf}
 use Rattle.rules.specs.declared.Arrival.{Arrival}
 use Rattle.rules.specs.declared.Sack.{Sack}
 use Rattle.rules.specs.declared.Verdict.the-variants.{Fresh}
-use Rattle.rules.proofs.Joined.{or-false-each}
-use Rattle.rules.proofs.Lists.{lead-true, lead-false, lead-le, getD-alike, getD-slide, length-slide}
+use Rattle.lists.proofs.Joined.{or-false-each}
+use Rattle.lists.proofs.Lists.{lead-true, lead-false, lead-le, getD-alike, getD-slide, length-slide}
 use Rattle.delivery.specs.Network.{Start, Near, base-number}
 use Rattle.rules.proofs.Packed.{bit-pack}
 use Rattle.delivery.proofs.Rooms.{room-used, room-few}

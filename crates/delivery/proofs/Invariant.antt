@@ -11,7 +11,7 @@ use native.Mathlib.Decide.{ℕ-discrete, decLt}
 use lib.ListN.{length, set}
 use borrow.Author.Tests.{leb-false, not-false}
 use Rattle.rules.specs.Numbers.{turn, after, distance, psn, size-ok, reason-ok, trimmed, trimmed-last-hop}
-use Rattle.rules.specs.Lists.{lead, update}
+use Rattle.lists.specs.Lists.{lead, update}
 use Rattle.rules.specs.Outcome.{Outcome, left, answered}
 use Rattle.rules.specs.Receiver.{Receiver, verdict, accept, sackOf, reasonOf, nackOf, judged, arrive}
 use Rattle.rules.specs.Receiver as receiver
@@ -19,13 +19,13 @@ use Rattle.rules.specs.Sender.{Sender, outstanding, nth, next, with-entries, ne
 use Rattle.rules.specs.Sender as sender
 use Rattle.rules.specs.Retire.{after-sack, sack}
 use Rattle.rules.specs.Marks.{with-mark, nearest, timer, nack, resend}
-use Rattle.rules.specs.Kept.{All}
+use Rattle.lists.specs.Lists.{All}
 use Rattle.rules.specs.declared.Arrival.{Arrival}
 use Rattle.rules.specs.declared.Sack.{Sack}
 use Rattle.rules.specs.declared.Nack.{Nack}
 use Rattle.rules.specs.declared.Verdict.{Verdict}
 use Rattle.rules.specs.declared.Verdict.the-variants.{Fresh, Known, Beyond, NoBuffer, Trim, TrimLastHop}
-use Rattle.rules.proofs.Joined.{never-true}
+use Rattle.lists.proofs.Joined.{never-true}
 use Rattle.rules.proofs.Outcomes.{through, After, after-refuse, after-done}
 use Rattle.delivery.specs.Network.{Start, Packet, Fate, Message, Silent, Goes, Acks, Nacks, accepts, message, Note, World, begin}
 use Rattle.delivery.specs.Network.{with-sender, put, on-send, sizeOf, again, on-resend, on-timer, heard, on-hear, arrival}

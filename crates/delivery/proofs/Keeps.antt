@@ -15,7 +15,7 @@ use Rattle.psn.specs.declared.Psn.{Psn}
 use Rattle.psn.proofs.Circle.{after-zero, after-after, lands}
 use Rattle.word.specs.Word.{bitAt}
 use Rattle.rules.specs.Numbers.{turn, after, before, distance}
-use Rattle.rules.specs.Lists.{lead, update}
+use Rattle.lists.specs.Lists.{lead, update}
 use Rattle.rules.specs.Outcome.{left}
 use Rattle.rules.specs.Sender.{Entry, Sender, outstanding, nth, next, unused, fresh, with-entries, new, index}
 use Rattle.rules.specs.Retire.{is-retired, retired, retire, named, up-to, has-bit, settle, after-sack}
@@ -23,8 +23,8 @@ use Rattle.rules.specs.Marks.{with-mark, markable, mark, timer, nack}
 use Rattle.rules.specs.declared.Answer.{Answer}
 use Rattle.rules.specs.declared.Answer.the-variants as answer
 use Rattle.rules.specs.declared.Sack.{Sack}
-use Rattle.rules.proofs.Joined.{and-true-each}
-use Rattle.rules.proofs.Lists.{lead-true, lead-false, lead-le, length-update, map-update}
+use Rattle.lists.proofs.Joined.{and-true-each}
+use Rattle.lists.proofs.Lists.{lead-true, lead-false, lead-le, length-update, map-update}
 use Rattle.rules.proofs.Outcomes.{After, after-refuse, after-cond, after-done}
 use Rattle.delivery.specs.Network.{Start, Near, base-number}
 use Rattle.delivery.specs.Promise.{retired-at}

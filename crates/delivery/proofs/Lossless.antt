@@ -12,7 +12,7 @@ use Rattle.rules.specs.Outcome.{refuse, left, answered}
 use Rattle.rules.specs.Receiver.{Receiver, accept, sackOf, judged, arrive}
 use Rattle.rules.specs.Sender.{Sender, with-entries, new, send}
 use Rattle.rules.specs.Retire.{sack}
-use Rattle.rules.specs.Kept.{All}
+use Rattle.lists.specs.Lists.{All}
 use Rattle.rules.specs.declared.Arrival.{Arrival}
 use Rattle.rules.specs.declared.Sack.{Sack}
 use Rattle.delivery.specs.Network.{Start, accepts, message, heard}

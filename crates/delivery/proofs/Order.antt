@@ -13,13 +13,13 @@ use borrow.Author.Tests.{lt-ltb, lt-leb}
 use Rattle.psn.proofs.Circle.{after-lt, ahead}
 use Rattle.word.specs.Word.{bitAt}
 use Rattle.rules.specs.Numbers.{turn, half, after, distance, size-ok, flags-ok}
-use Rattle.rules.specs.Lists.{lead}
+use Rattle.lists.specs.Lists.{lead}
 use Rattle.rules.specs.Outcome.{refuse, left}
 use Rattle.rules.specs.Receiver.{Receiver, room, fresh, judge, known, beyond, verdict, accept, judged, arrive}
-use Rattle.rules.specs.Kept.{All}
+use Rattle.lists.specs.Lists.{All}
 use Rattle.rules.specs.declared.Verdict.the-variants.{Fresh}
-use Rattle.rules.proofs.Joined.{never-true}
-use Rattle.rules.proofs.Lists.{in-range}
+use Rattle.lists.proofs.Joined.{never-true}
+use Rattle.lists.proofs.Lists.{in-range}
 use Rattle.delivery.specs.Network.{Start}
 use Rattle.delivery.specs.Promise.{plain, ascending}
 use Rattle.delivery.proofs.Rooms.{room-some, room-few}

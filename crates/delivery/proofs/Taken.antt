@@ -13,7 +13,7 @@ use Rattle.psn.proofs.Circle.{after-lt, after-after, ahead, back}
 use Rattle.psn.specs.declared.Psn.{Psn}
 use Rattle.word.specs.Word.{bitAt}
 use Rattle.rules.specs.Numbers.{turn, half, after, distance, reason-ok}
-use Rattle.rules.specs.Lists.{lead}
+use Rattle.lists.specs.Lists.{lead}
 use Rattle.rules.specs.Outcome.{Outcome, Done, refuse}
 use Rattle.rules.specs.Sender.{Entry, Sender, outstanding, nth, index, unsent}
 use Rattle.rules.specs.Retire.{is-retired, retire, named, up-to, unsent-cack, unsent-bit, names-unsent, after-sack, report, sack}
@@ -21,7 +21,7 @@ use Rattle.rules.specs.Marks.{markable, mark, nack}
 use Rattle.rules.specs.declared.Answer.{Answer}
 use Rattle.rules.specs.declared.Sack.{Sack}
 use Rattle.delivery.specs.Network.{Start, Near, base-number}
-use Rattle.rules.proofs.Lists.{any-none}
+use Rattle.lists.proofs.Lists.{any-none}
 use Rattle.delivery.proofs.Rooms.{room-few}
 use Rattle.delivery.proofs.Holds.{Tells}
 use Rattle.delivery.proofs.Keeps.{Keeps, sender-used, nth-is, moves}

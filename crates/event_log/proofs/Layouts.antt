@@ -9,9 +9,9 @@ use borrow.Author.Tests.{leb-true}
 use lib.Dec.{leb}
 use lib.ListN.{length, getD, take}
 use lib.Seq.{take-all}
-use Rattle.rules.specs.Lists.{sum}
+use Rattle.lists.specs.Lists.{sum}
 use Rattle.rules.specs.Log.{layouts, widths, whole}
-use Rattle.rules.proofs.Joined.{and-true-each}
+use Rattle.lists.proofs.Joined.{and-true-each}
 use Rattle.event_log.specs.Parts.{padded}
 use Rattle.event_log.proofs.OneMore.{sum-more, sum-take}
 use Rattle.event_log.proofs.Padded.{padded-at}

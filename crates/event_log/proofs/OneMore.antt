@@ -9,7 +9,7 @@ use lib.Dec.{leb, eqb}
 use lib.ListN.{length, getD, take, drop, set, length-append}
 use lib.Seq.{sets, set-comm, take-nil, drop-nil, drop-drop}
 use Rattle.rules.specs.Numbers.{turn}
-use Rattle.rules.specs.Lists.{sum}
+use Rattle.lists.specs.Lists.{sum}
 use Rattle.rules.specs.Log.{psn-width, spell, spell-all, number, number-all, high-psn}
 
 -- ---- stores in a row

@@ -9,8 +9,8 @@ use borrow.Author.Tests.{eq-eqb, ne-eqb}
 use lib.Dec.{eqb}
 use lib.ListN.{length, getD, take, set, length-take, List·getD-eq-default}
 use lib.Seq.{getD-take}
-use Rattle.word.specs.Index.{table}
-use Rattle.word.proofs.Index.{length-table, getD-table, set-table, table-same}
+use Rattle.lists.specs.Index.{table}
+use Rattle.lists.proofs.Index.{length-table, getD-table, set-table, table-same}
 use Rattle.rules.specs.Paper.{kindOf, fieldsOf}
 use Rattle.rules.specs.Log.{layouts, widths, spell-all, eventOf, high-psn}
 use Rattle.rules.specs.declared.Event.{Event}

@@ -3,7 +3,7 @@ use mathlib.Core.Path.{_≡_}
 use mathlib.Core.List.{List}
 use Prim.Native.Nat.{ℕ, _<_, _^_}
 use lib.ListN.{length, getD}
-use Rattle.word.specs.Index.{table}
+use Rattle.lists.specs.Index.{table}
 use Rattle.rules.specs.Paper.{written-line}
 use Rattle.rules.specs.Log.{write, written}
 use Rattle.rules.specs.declared.Event.{Event}

@@ -19,7 +19,7 @@ use Rattle.rules.proofs.RoundTrip.{read-kind}
 use Rattle.connection.specs.Record as connection
 use Rattle.sender.specs.Record as sender
 use Rattle.receiver.specs.Held as held
-use Rattle.word.specs.Index.{table}
+use Rattle.lists.specs.Index.{table}
 use Rattle.table.specs.Slots.{meaning}
 use Rattle.player.specs.declared.State.{State}
 use Rattle.player.specs.declared.Turn.{Turn}

@@ -10,17 +10,17 @@ use lib.ListN.{set}
 use borrow.Author.Tests.{eq-eqb, ne-eqb, lt-ltb, not-false}
 use Rattle.psn.specs.declared.Psn.{Psn}
 use Rattle.psn.proofs.Circle.{after-lt}
-use Rattle.word.specs.Index.{First, table}
-use Rattle.word.proofs.Index.{set-table, table-same}
+use Rattle.lists.specs.Index.{First, table}
+use Rattle.lists.proofs.Index.{set-table, table-same}
 use Rattle.row.proofs.Rows.{run-from, run-stops}
 use Rattle.row.specs.Row.{at, bits, Becomes, withBit, isClear}
 use Rattle.rules.specs.Numbers.{turn, after, distance}
-use Rattle.rules.specs.Lists.{lead, slide}
+use Rattle.lists.specs.Lists.{lead, slide}
 use Rattle.rules.specs.Receiver.{accept}
 use Rattle.rules.specs.declared.Arrival.{Arrival}
 use Rattle.receiver.specs.Held.{Held, held, offset, accepted, meaning, Started}
-use Rattle.word.proofs.Index.{first-from}
-use Rattle.rules.proofs.Tables.{lead-table, slide-table}
+use Rattle.lists.proofs.Index.{first-from}
+use Rattle.lists.proofs.Tables.{lead-table, slide-table}
 
 -- E moves on with the bit that it has in its block
 moved : (e s t : ℕ) → s ≡ e % 64 → s ≤ t → after e (t - s) % 64 ≡ t % 64

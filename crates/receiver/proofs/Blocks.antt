@@ -8,13 +8,13 @@ use lib.Dec.{ltb}
 use lib.ListN.{take, drop}
 use borrow.Author.Tests.{lt-ltb, le-ltb}
 use Rattle.psn.specs.declared.Psn.{Psn}
-use Rattle.word.specs.Index.{table}
+use Rattle.lists.specs.Index.{table}
 use Rattle.word.specs.Word.{Bits}
-use Rattle.word.proofs.Index.{drop-table, take-table}
+use Rattle.lists.proofs.Index.{drop-table, take-table}
 use Rattle.word.proofs.Bits.{bits-one}
 use Rattle.row.specs.Row.{at}
 use Rattle.rules.specs.Numbers.{after, distance}
-use Rattle.rules.specs.Lists.{pack}
+use Rattle.lists.specs.Lists.{pack}
 use Rattle.rules.specs.Receiver.{room, block-at, block}
 use Rattle.rules.specs.declared.Block.{Block}
 use Rattle.rules.proofs.Allowed.{room-numbers}

@@ -6,7 +6,7 @@ use native.Mathlib.Omega.{arith}
 use lib.Dec.{leb}
 use lib.ListN.{getD, List·getD-eq-default}
 use borrow.Author.Tests.{leb-false, le-leb, lt-leb, eq-eqb, ne-eqb}
-use Rattle.word.proofs.Index.{length-table, getD-table}
+use Rattle.lists.proofs.Index.{length-table, getD-table}
 use Rattle.rules.specs.Numbers.{half, distance}
 use Rattle.rules.specs.Receiver.{room, unused, known, beyond, verdict}
 use Rattle.rules.specs.declared.Arrival.{Arrival}

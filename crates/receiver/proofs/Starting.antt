@@ -8,12 +8,12 @@ use lib.ListN.{set, replicate, length-replicate}
 use borrow.Author.Tests.{lt-ltb, le-ltb}
 use Rattle.psn.specs.declared.Psn.{Psn}
 use Rattle.word.specs.Word.{Bits}
-use Rattle.word.proofs.Index.{is-table}
+use Rattle.lists.proofs.Index.{is-table}
 use Rattle.row.specs.Row.{at, Row}
 use Rattle.row.proofs.Rows.{row-set, at-zeros}
 use Rattle.rules.specs.Numbers.{turn, room-ok, words}
 use Rattle.rules.specs.Receiver.{fresh}
-use Rattle.rules.proofs.Lists.{getD-alike}
+use Rattle.lists.proofs.Lists.{getD-alike}
 use Rattle.rules.proofs.Allowed.{room-numbers}
 use Rattle.receiver.specs.Held.{Held, held, offset, accepted, meaning, Started}
 

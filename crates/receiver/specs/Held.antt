@@ -4,7 +4,7 @@ use mathlib.Core.Bool.{Bool, true, false}
 use mathlib.Core.List.{List}
 use Prim.Native.Nat.{ℕ, _+_, _*_, _%_, _≤_, _<_}
 use lib.ListN.{length}
-use Rattle.word.specs.Index.{table}
+use Rattle.lists.specs.Index.{table}
 use Rattle.row.specs.Row.{at}
 use Rattle.rules.specs.Numbers.{turn, room-ok}
 use Rattle.rules.specs.Receiver.{Receiver}

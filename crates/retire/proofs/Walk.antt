@@ -6,9 +6,9 @@ use native.Mathlib.Omega.{arith}
 use native.Mathlib.Numerals.{add-one}
 use native.Mathlib.Decide.{decLt}
 use lib.Pow.{pow-pos, shr-le, shr-shr}
-use Rattle.word.specs.Index.{total, weigh, First}
+use Rattle.lists.specs.Index.{total, weigh, First}
 use Rattle.word.specs.Word.{bitAt}
-use Rattle.word.proofs.Index.{total-add, total-none}
+use Rattle.lists.proofs.Index.{total-add, total-none}
 use Rattle.word.proofs.Bits.{bit-none, bit-past, bit-shr, same-bits}
 
 -- a word that is not 0 has a set bit

@@ -9,9 +9,9 @@ use lib.Dec.{ltb}
 use lib.ListN.{length, getD, set, length-set}
 use borrow.Author.Tests.{lt-ltb, le-ltb}
 use Rattle.psn.specs.Psn.{after}
-use Rattle.word.specs.Index.{total, weigh, tally}
+use Rattle.lists.specs.Index.{total, weigh, tally}
 use Rattle.word.specs.Word.{bitAt, Bits, onlyIn}
-use Rattle.word.proofs.Index.{total-le}
+use Rattle.lists.proofs.Index.{total-le}
 use Rattle.row.specs.Row.{at, bits, Becomes}
 use Rattle.row.proofs.Rows.{at-word, at-past, row-set, weigh-word, tally-word}
 use Rattle.retire.specs.Rows.{fresh, sizeAt, OneRetired, Retires}

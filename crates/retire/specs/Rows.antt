@@ -6,7 +6,7 @@ use Prim.Native.Nat.{ℕ, _+_, _%_}
 use lib.Dec.{leb, ltb}
 use lib.ListN.{getD}
 use Rattle.psn.specs.Psn.{half, after}
-use Rattle.word.specs.Index.{tally, weigh}
+use Rattle.lists.specs.Index.{tally, weigh}
 use Rattle.word.specs.Word.{bitAt, Bits, onlyIn}
 use Rattle.row.specs.Row.{at, bits, Becomes}
 use Rattle.rules.specs.Numbers.{largest-room}

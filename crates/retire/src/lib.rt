@@ -3,7 +3,7 @@ ghost use mathlib.Core.Path.{_≡_};
 ghost use Prim.Native.Nat.{_+_, _*_, _%_, _≤_, _<_};
 ghost use lib.ListN.{length};
 ghost use Rattle.psn.specs.Psn.{turn};
-ghost use Rattle.word.specs.Index.{weigh};
+ghost use Rattle.lists.specs.Index.{weigh};
 ghost use Rattle.word.specs.Word.{bitAt, Bits};
 ghost use Rattle.row.specs.Row.{longest};
 ghost use Rattle.rules.specs.Numbers.{largest-room};

@@ -9,9 +9,9 @@ use lib.Dec.{eqb}
 use lib.ListN.{length, getD, set, replicate, length-replicate, getD-replicate, List·getD-eq-default}
 use lib.Seq.{getD-set-same, getD-set-other}
 use borrow.Author.Tests.{eq-eqb, ne-eqb, lt-ltb, le-ltb, not-true}
-use Rattle.word.specs.Index.{First, weigh, tally}
+use Rattle.lists.specs.Index.{First, weigh, tally}
 use Rattle.word.specs.Word.{bitAt, Bits, bitOfTwo}
-use Rattle.word.proofs.Index.{total-add, total-same}
+use Rattle.lists.proofs.Index.{total-add, total-same}
 use Rattle.word.proofs.Bits.{bit-none}
 use Rattle.row.specs.Row.{at, bits, Row, isClear}
 

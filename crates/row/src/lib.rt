@@ -2,7 +2,7 @@
 ghost use mathlib.Core.Path.{_≡_};
 ghost use Prim.Native.Nat.{_+_, _-_, _*_};
 ghost use lib.ListN.{getD};
-ghost use Rattle.word.specs.Index.{First};
+ghost use Rattle.lists.specs.Index.{First};
 ghost use Rattle.word.specs.Word.{Bits, inRange};
 ghost use Rattle.row.specs.Row.{at as bitOf, Becomes, withBit, withoutBit, isClear};
 

@@ -5,7 +5,7 @@ use Prim.Native.Nat.{ℕ, _%_, _≤_}
 use lib.Dec.{leb, eqb}
 use borrow.Author.Tests.{leb-true, eqb-true}
 use Rattle.rules.specs.Numbers.{least-room, largest-room, room-ok}
-use Rattle.rules.proofs.Joined.{and-true-each}
+use Rattle.lists.proofs.Joined.{and-true-each}
 
 pub record Room (n : ℕ) : Type 0 where
   pub least : least-room ≤ n

@@ -12,7 +12,7 @@ use Rattle.rules.specs.Paper.{kindOf, fieldsOf}
 use Rattle.rules.specs.Log.{layouts, widths, kind-ok, eventOf}
 use Rattle.rules.specs.declared.Event.{Event}
 use Rattle.rules.specs.declared.Event.the-variants as event
-use Rattle.rules.proofs.Joined.{and-true-each}
+use Rattle.lists.proofs.Joined.{and-true-each}
 
 pub known-kind : (e : Event) → kind-ok (kindOf e) ≡ true
 unfolding kindOf layouts

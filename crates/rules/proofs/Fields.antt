@@ -10,9 +10,9 @@ use lib.Dec.{leb, eqb}
 use lib.ListN.{length, take, drop, length-append, length-drop}
 use lib.Seq.{take-at, drop-at, take-add}
 use Rattle.rules.specs.Numbers.{turn}
-use Rattle.rules.specs.Lists.{sum}
+use Rattle.lists.specs.Lists.{sum}
 use Rattle.rules.specs.Log.{psn-width, held-width, spell, spell-all, number, number-all, Fits, high-psn}
-use Rattle.rules.proofs.Joined.{or-false-each}
+use Rattle.lists.proofs.Joined.{or-false-each}
 use Rattle.rules.proofs.Spelling.{Bytes, bytes-drop, length-spell, number-take-lt, number-spell, spell-number-take}
 
 pub length-spell-all : (ws vs : List ℕ) → length (spell-all ws vs) ≡ sum ws

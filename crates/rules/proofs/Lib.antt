@@ -1,10 +1,8 @@
 -- The theorems over the definitions.
 pub mod Unfold
 pub mod Starred
-pub mod Joined
-pub mod Lists
 pub mod Packed
-pub mod Tables
+pub mod Entries
 pub mod Allowed
 pub mod Outcomes
 pub mod Receives

@@ -6,11 +6,11 @@ use Prim.Native.Nat.{ℕ, zero, suc, _+_, _*_, _/_, _^_, _<_}
 use native.Mathlib.Omega.{arith}
 use native.Mathlib.Nat.{pow-suc}
 use lib.ListN.{length, getD}
-use Rattle.word.specs.Index.{table}
+use Rattle.lists.specs.Index.{table}
 use Rattle.word.specs.Word.{bitAt, Bits}
-use Rattle.word.proofs.Index.{length-table, getD-table}
+use Rattle.lists.proofs.Index.{length-table, getD-table}
 use Rattle.word.proofs.Bits.{bit-none, bit-even, bit-odd, bit-suc}
-use Rattle.rules.specs.Lists.{pack}
+use Rattle.lists.specs.Lists.{pack}
 
 pub pack-lt : (l : List Bool) → pack l < 2 ^ length l
 unfolding pack

@@ -11,7 +11,7 @@ use Rattle.rules.specs.Numbers.{longest-log}
 use Rattle.rules.specs.Log.{widths, kind-ok, whole, number-all, eventOf, has-mark, read-left, read}
 use Rattle.rules.specs.declared.Event.{Event}
 use Rattle.rules.specs.declared.Read.the-variants.{Record, Nothing}
-use Rattle.rules.proofs.Joined.{and-true-each, passed}
+use Rattle.lists.proofs.Joined.{and-true-each, passed}
 use Rattle.rules.proofs.Records.{Begins}
 
 -- the log has the record of an event at the place

@@ -7,13 +7,13 @@ use native.Mathlib.Omega.{arith}
 use lib.ListN.{getD, set, length-set, length-replicate}
 use Rattle.psn.proofs.Circle.{after-lt}
 use Rattle.rules.specs.Numbers.{turn, distance, room-ok}
-use Rattle.rules.specs.Lists.{lead}
+use Rattle.lists.specs.Lists.{lead}
 use Rattle.rules.specs.Receiver.{Receiver, fresh, arrive, verdict, judged, accept}
 use Rattle.rules.specs.Kept.{Receives}
 use Rattle.rules.specs.declared.Arrival.{Arrival}
 use Rattle.rules.specs.declared.Verdict.{Verdict}
 use Rattle.rules.specs.declared.Verdict.the-variants.{Fresh, Known, Beyond, NoBuffer, Trim, TrimLastHop}
-use Rattle.rules.proofs.Lists.{lead-false, lead-le, getD-alike, getD-slide, length-slide}
+use Rattle.lists.proofs.Lists.{lead-false, lead-le, getD-alike, getD-slide, length-slide}
 use Rattle.rules.proofs.Outcomes.{After, after-refuse, after-done}
 
 pub receives-fresh : (n p : ℕ) → room-ok n ≡ true → p < turn → Receives (fresh n p)

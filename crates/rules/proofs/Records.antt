@@ -6,7 +6,7 @@ use Prim.Native.Nat.{ℕ, _≤_}
 use native.Mathlib.Omega.{arith}
 use lib.ListN.{length, take, drop, length-append, length-drop}
 use lib.Seq.{take-append-add}
-use Rattle.rules.specs.Lists.{sum}
+use Rattle.lists.specs.Lists.{sum}
 use Rattle.rules.specs.Paper.{kindOf, fieldsOf}
 use Rattle.rules.specs.Log.{widths, kind-ok, whole, spell-all, number-all, eventOf, encode, Fits, high-psn}
 use Rattle.rules.specs.declared.Event.{Event}

@@ -7,7 +7,7 @@ use mathlib.Core.Bool.{true, false}
 use mathlib.Core.List.{map}
 use Rattle.psn.specs.declared.Psn.{Psn}
 use Rattle.rules.specs.Numbers.{distance}
-use Rattle.rules.specs.Lists.{lead}
+use Rattle.lists.specs.Lists.{lead}
 use Rattle.rules.specs.Receiver.{Receiver, room, verdict, accept, judged, arrive}
 use Rattle.rules.specs.Sender.{Sender, index, with-entries, send}
 use Rattle.rules.specs.Retire.{settle, after-sack, sack}
@@ -18,7 +18,7 @@ use Rattle.rules.specs.declared.Answer.{Answer}
 use Rattle.rules.specs.declared.Answer.the-variants as answer
 use Rattle.rules.specs.declared.Verdict.{Verdict}
 use Rattle.rules.specs.declared.Verdict.the-variants.{Fresh, Known, Beyond, NoBuffer, Trim, TrimLastHop}
-use Rattle.rules.proofs.Lists.{lead-le, length-slide}
+use Rattle.lists.proofs.Lists.{lead-le, length-slide}
 use Rattle.rules.proofs.Outcomes.{After, after-refuse, after-cond, after-done}
 
 -- ---- the receiving side

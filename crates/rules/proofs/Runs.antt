@@ -20,8 +20,8 @@ use Rattle.rules.specs.Table.{at, outside, on}
 use Rattle.rules.specs.Kept.{Receives, Sends, Runs, Whole, AllWhole}
 use Rattle.rules.specs.declared.Event.{Event}
 use Rattle.rules.specs.declared.Event.the-variants as event
-use Rattle.rules.proofs.Lists.{all-set}
-use Rattle.rules.proofs.Joined.{and-true-each, or-false-each}
+use Rattle.lists.proofs.Lists.{all-set}
+use Rattle.lists.proofs.Joined.{and-true-each, or-false-each}
 use Rattle.rules.proofs.Outcomes.{After, after-refuse, after-refused, after-done, after-within}
 use Rattle.rules.proofs.Receives.{receives-fresh, receives-arrive}
 use Rattle.rules.proofs.Sends.{sends-fresh, sends-send, sends-sack, sends-nack, sends-timer, sends-resend}

@@ -12,15 +12,15 @@ use borrow.Author.Tests.{leb-false, not-false}
 use Rattle.psn.specs.declared.Psn.{Psn}
 use Rattle.psn.proofs.Circle.{after-lt}
 use Rattle.rules.specs.Numbers.{room-ok, size-ok}
-use Rattle.rules.specs.Lists.{lead, update}
+use Rattle.lists.specs.Lists.{lead, update, All}
 use Rattle.rules.specs.Sender.{Entry, Sender, fresh, send, with-entries, new, index}
 use Rattle.rules.specs.Retire.{retire, retired, is-retired, settle, named, after-sack, sack}
 use Rattle.rules.specs.Marks.{mark, markable, with-mark, nack, timer, resend, nearest}
-use Rattle.rules.specs.Kept.{All, Held, Sends}
+use Rattle.rules.specs.Kept.{Held, Sends}
 use Rattle.rules.specs.declared.Block.{Block}
 use Rattle.rules.specs.declared.Answer.{Answer}
 use Rattle.rules.specs.declared.Answer.the-variants as answer
-use Rattle.rules.proofs.Lists.{lead-false, length-update, map-update, all-update, all-snoc, all-drop}
+use Rattle.lists.proofs.Lists.{lead-false, length-update, map-update, all-update, all-snoc, all-drop}
 use Rattle.rules.proofs.Outcomes.{After, after-refuse, after-cond, after-done}
 
 pub sends-fresh : (n p : ℕ) → room-ok n ≡ true → Sends (fresh n p)

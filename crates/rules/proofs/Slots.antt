@@ -10,7 +10,7 @@ use Rattle.rules.specs.Outcome.{Outcome, Refused, Done, left, within}
 use Rattle.rules.specs.Connection.{Connection, empty, step}
 use Rattle.rules.specs.Table.{at, on, emptied}
 use Rattle.rules.specs.declared.Event.{Event}
-use Rattle.rules.proofs.Lists.{getD-alike}
+use Rattle.lists.proofs.Lists.{getD-alike}
 use Rattle.rules.proofs.Outcomes.{refused-keeps, After, after-refuse, after-refused, after-done}
 
 -- as long as the table t, and the same in every slot but one

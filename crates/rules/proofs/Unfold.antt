@@ -1,7 +1,7 @@
 -- All definitions of the rules under one name, for what is checked by computing: `unfolding rules`.
 use Rattle.word.specs.Word.{bitAt}
 use Rattle.rules.specs.Numbers.{after, distance, room-ok, size-ok, flags-ok, reason-ok}
-use Rattle.rules.specs.Lists.{lead, slide, pack, any, sum, update}
+use Rattle.lists.specs.Lists.{lead, slide, pack, any, sum, update}
 use Rattle.rules.specs.Outcome.{refuse, left, answered, within, started}
 use Rattle.rules.specs.Receiver as receiver
 use Rattle.rules.specs.Sender as sender

@@ -9,7 +9,7 @@ use Rattle.rules.specs.Paper.{kindOf, fieldsOf}
 use Rattle.rules.specs.Log.{widths, whole, high-psn, write}
 use Rattle.rules.specs.declared.Event.{Event}
 use Rattle.rules.specs.declared.Written.the-variants.{Refused, Length}
-use Rattle.rules.proofs.Joined.{passed}
+use Rattle.lists.proofs.Joined.{passed}
 
 -- nothing keeps the event from a buffer of n bytes
 pub record Writable (e : Event) (n : ℕ) : Type 0 where

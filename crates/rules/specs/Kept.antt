@@ -9,13 +9,9 @@ use Rattle.rules.specs.Numbers.{turn, room-ok, size-ok}
 use Rattle.rules.specs.Receiver.{Receiver, room}
 use Rattle.rules.specs.Sender.{Entry, Sender, outstanding}
 use Rattle.rules.specs.Retire.{is-retired}
+use Rattle.lists.specs.Lists.{All}
 use Rattle.rules.specs.Connection.{Connection, empty}
 use Rattle.rules.specs.Table.{at}
-
--- every entry of a list
-unfoldable pub All : {A : Type 0} → (A → Type 0) → List A → Type 0
-All P [] = Unit {0}
-All P (a ∷ l) = P a × All P l
 
 -- "E to E + room - 1 are accepted" or not, and E itself is not
 pub record Receives (r : Receiver) : Type 0 where

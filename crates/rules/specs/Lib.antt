@@ -1,6 +1,5 @@
 -- Document 01 as definitions, in its own order. Nothing here is proved or run: proofs/ has the theorems.
 pub mod Numbers
-pub mod Lists
 pub mod Outcome
 pub mod Receiver
 pub mod Sender

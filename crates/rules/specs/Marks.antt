@@ -5,7 +5,7 @@ use Prim.Native.Nat.{ℕ}
 use lib.Dec.{leb}
 use lib.ListN.{getD}
 use Rattle.rules.specs.Numbers.{psn, psn-ok, reason-ok}
-use Rattle.rules.specs.Lists.{lead, update}
+use Rattle.lists.specs.Lists.{lead, update}
 use Rattle.rules.specs.Outcome.{Outcome, Done, refuse}
 use Rattle.rules.specs.Sender.{Entry, Sender, outstanding, nth, unused, index, unsent, with-entries}
 use Rattle.rules.specs.declared.Answer.{Answer}

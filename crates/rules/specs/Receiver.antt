@@ -5,7 +5,7 @@ use Prim.Native.Nat.{ℕ, _+_, _*_, _/_, _%_, _^_}
 use lib.Dec.{leb, ltb, eqb}
 use lib.ListN.{length, getD, take, drop, set, replicate}
 use Rattle.rules.specs.Numbers.{before, behind, after, distance, psn, psn-ok, room-ok, size-ok, flags-ok, ecn, rtx, trimmed, trimmed-last-hop, no-buffer}
-use Rattle.rules.specs.Lists.{lead, slide, pack}
+use Rattle.lists.specs.Lists.{lead, slide, pack}
 use Rattle.rules.specs.Outcome.{Outcome, Done, refuse, started}
 use Rattle.rules.specs.declared.Arrival.{Arrival}
 use Rattle.rules.specs.declared.Block.{Block}

@@ -6,7 +6,7 @@ use lib.Dec.{leb, ltb}
 use lib.ListN.{drop}
 use Rattle.word.specs.Word.{bitAt}
 use Rattle.rules.specs.Numbers.{behind, after, distance, psn, psn-ok}
-use Rattle.rules.specs.Lists.{lead, any}
+use Rattle.lists.specs.Lists.{lead, any}
 use Rattle.rules.specs.Outcome.{Outcome, Done, refuse}
 use Rattle.rules.specs.Sender.{Entry, Sender, outstanding, nth, held, unused, unsent}
 use Rattle.rules.specs.declared.Block.{Block}

@@ -5,7 +5,7 @@ use Prim.Native.Nat.{ℕ, _+_}
 use lib.Dec.{leb, eqb}
 use lib.ListN.{length}
 use Rattle.rules.specs.Numbers.{before, behind, after, distance, psn, psn-ok, room-ok, size-ok}
-use Rattle.rules.specs.Lists.{sum}
+use Rattle.lists.specs.Lists.{sum}
 use Rattle.rules.specs.Outcome.{Outcome, Done, refuse, started}
 use Rattle.rules.specs.declared.Answer.the-variants as answer
 use Rattle.psn.specs.declared.Psn.{Psn}

@@ -12,28 +12,29 @@ use borrow.Author.Tests.{lt-ltb, le-ltb, le-leb, lt-leb, ltb-true, not-false}
 use Rattle.psn.specs.declared.Psn.{Psn}
 use Rattle.psn.specs.Psn.{turn, half, after, distance}
 use Rattle.psn.proofs.Circle.{after-lt, after-after, after-turn, distance-after, ahead as ahead-by}
-use Rattle.word.specs.Index.{total, weigh, First, table}
+use Rattle.lists.specs.Index.{total, weigh, First, table}
 use Rattle.word.specs.Word.{bitAt}
-use Rattle.word.proofs.Index.{total-same, total-add, total-none, total-both, total-window, table-same, map-table, drop-table}
+use Rattle.lists.proofs.Index.{total-same, total-add, total-none, total-both, total-window, table-same, map-table, drop-table}
 use Rattle.row.proofs.Rows.{run-from, run-stops}
 use Rattle.row.specs.Row.{at, bits, isClear, Becomes}
 use Rattle.rules.specs.Numbers.{psn, size-ok, largest-room, words}
-use Rattle.rules.specs.Lists.{lead, any}
+use Rattle.lists.specs.Lists.{lead, any}
 use Rattle.rules.specs.Sender.{Entry, size-held, held, unsent}
 use Rattle.rules.specs.Retire.{up-to, unsent-cack, unsent-bit, names-unsent, has-bit, named, retired, retire, newly, is-retired, settle, after-sack, report}
 use Rattle.rules.specs.Sender as rule
 use Rattle.rules.specs.declared.Block.{Block}
 use Rattle.rules.specs.declared.Answer.the-variants as answer
-use Rattle.rules.proofs.Joined.{and-true-each, or-false-each, never-true}
+use Rattle.lists.proofs.Joined.{and-true-each, or-false-each, never-true}
 use Rattle.retire.specs.Rows.{names, fresh, sizeAt, Retires}
 use Rattle.retire.specs.declared.Sum.{Sum}
 use Rattle.word.proofs.Compare.{leb-same}
 use Rattle.retire.proofs.Naming.{size-on}
 use Rattle.sender.specs.declared.Sender.{Sender}
 use Rattle.sender.specs.Record.{meaning, entry, offset, size-at, Started}
-use Rattle.word.proofs.Index.{first-from}
-use Rattle.rules.proofs.Lists.{any-some}
-use Rattle.rules.proofs.Tables.{lead-table, retire-table, newly-table}
+use Rattle.lists.proofs.Index.{first-from}
+use Rattle.lists.proofs.Lists.{any-some}
+use Rattle.lists.proofs.Tables.{lead-table}
+use Rattle.rules.proofs.Entries.{retire-table, newly-table}
 use Rattle.sender.proofs.Entries.{same-entry, length-entries, held-total, few}
 use Rattle.sender.proofs.Judged.{index-is, unsent-is, unsent-past}
 

@@ -7,16 +7,16 @@ use native.Mathlib.Omega.{arith}
 use lib.Dec.{leb}
 use lib.ListN.{length}
 use borrow.Author.Tests.{leb-true}
-use Rattle.word.specs.Index.{total}
-use Rattle.word.proofs.Index.{length-table, map-table}
+use Rattle.lists.specs.Index.{total}
+use Rattle.lists.proofs.Index.{length-table, map-table}
 use Rattle.rules.specs.Numbers.{after, size-ok, largest-room, least-size, largest-size}
-use Rattle.rules.specs.Lists.{sum}
+use Rattle.lists.specs.Lists.{sum}
 use Rattle.rules.specs.Sender.{Entry, next, size-held, held}
-use Rattle.rules.proofs.Joined.{and-true-each}
+use Rattle.lists.proofs.Joined.{and-true-each}
 use Rattle.rules.proofs.Allowed.{room-numbers}
 use Rattle.sender.specs.declared.Sender.{Sender}
 use Rattle.sender.specs.Record.{meaning, entry, Started, Sound}
-use Rattle.rules.proofs.Tables.{sum-table}
+use Rattle.lists.proofs.Tables.{sum-table}
 
 pub same-entry : {s s′ : ℕ} {r r′ m m′ : Bool} → s ≡ s′ → r ≡ r′ → m ≡ m′
     → _≡_ {A = Entry} (record { size = s; retired = r; marked = m }) (record { size = s′; retired = r′; marked = m′ })

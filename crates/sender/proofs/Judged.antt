@@ -10,7 +10,7 @@ use borrow.Author.Tests.{lt-ltb, le-ltb, le-leb, lt-leb, eq-eqb, ne-eqb}
 use Rattle.psn.specs.Psn.{turn, half, after, distance}
 use Rattle.word.specs.Word.{bitAt, Bits}
 use Rattle.word.proofs.Bits.{bit-none, first-bit}
-use Rattle.rules.specs.Lists.{any}
+use Rattle.lists.specs.Lists.{any}
 use Rattle.rules.specs.Sender.{index, unsent}
 use Rattle.rules.specs.Retire.{unsent-cack, unsent-bit, names-unsent}
 use Rattle.rules.specs.declared.Block.{Block}
@@ -19,7 +19,7 @@ use Rattle.psn.proofs.Circle.{distance-on}
 use Rattle.retire.proofs.Walk.{some-bit}
 use Rattle.sender.specs.declared.Sender.{Sender}
 use Rattle.sender.specs.Record.{meaning}
-use Rattle.rules.proofs.Lists.{any-none, any-some}
+use Rattle.lists.proofs.Lists.{any-none, any-some}
 use Rattle.sender.proofs.Entries.{length-entries}
 
 -- a word is 0 where none of its bits is set

@@ -9,10 +9,10 @@ use native.Mathlib.Decide.{ℕ-discrete}
 use lib.Dec.{eqb}
 use lib.ListN.{length, getD, List·getD-eq-default}
 use borrow.Author.Tests.{lt-ltb, eq-eqb, ne-eqb}
-use Rattle.word.specs.Index.{table}
-use Rattle.word.proofs.Index.{length-table, getD-table, map-table, table-same}
+use Rattle.lists.specs.Index.{table}
+use Rattle.lists.proofs.Index.{length-table, getD-table, map-table, table-same}
 use Rattle.row.specs.Row.{at, bits, Becomes, withBit, withoutBit}
-use Rattle.rules.specs.Lists.{update}
+use Rattle.lists.specs.Lists.{update}
 use Rattle.rules.specs.Outcome.{Outcome, Refused, Done, left, answered}
 use Rattle.rules.specs.Paper.{paper}
 use Rattle.rules.specs.Promise.{Meets}
@@ -24,7 +24,7 @@ use Rattle.sender.specs.declared.Sender.{Sender}
 use Rattle.sender.specs.declared.Marking.{Marking}
 use Rattle.rules.specs.Numbers.{words}
 use Rattle.sender.specs.Record.{meaning, entry, offset, with-marked, Started, Sound, Marks}
-use Rattle.rules.proofs.Tables.{update-table}
+use Rattle.lists.proofs.Tables.{update-table}
 use Rattle.sender.proofs.Entries.{same-entry, few}
 
 -- ---- bit p of a row becomes b

@@ -6,16 +6,16 @@ use Prim.Native.Nat.{ℕ, _+_, _-_, _*_, _/_, _%_, _≤_, _<_}
 use native.Mathlib.Omega.{arith}
 use native.Mathlib.Decide.{decLt}
 use lib.ListN.{getD}
-use Rattle.word.specs.Index.{First}
+use Rattle.lists.specs.Index.{First}
 use Rattle.word.specs.Word.{bitAt}
 use Rattle.word.proofs.Bits.{bit-none}
-use Rattle.word.proofs.Index.{map-table}
+use Rattle.lists.proofs.Index.{map-table}
 use Rattle.row.specs.Row.{at}
-use Rattle.rules.specs.Lists.{lead}
+use Rattle.lists.specs.Lists.{lead}
 use Rattle.rules.specs.Marks.{nearest, unmarked}
 use Rattle.sender.specs.declared.Sender.{Sender}
 use Rattle.sender.specs.Record.{meaning, entry, offset, Started}
-use Rattle.rules.proofs.Tables.{lead-table}
+use Rattle.lists.proofs.Tables.{lead-table}
 
 -- no bit below p is set
 abbrev pub NoneBelow : List ℕ → ℕ → Type 0

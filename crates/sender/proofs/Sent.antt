@@ -8,8 +8,8 @@ use native.Mathlib.Numerals.{add-one}
 use native.Mathlib.Decide.{decLt}
 use lib.ListN.{set, length-set}
 use lib.Seq.{getD-set-same, getD-set-other}
-use Rattle.word.specs.Index.{total, table}
-use Rattle.word.proofs.Index.{total-same, table-same, table-snoc}
+use Rattle.lists.specs.Index.{total, table}
+use Rattle.lists.proofs.Index.{total-same, table-same, table-snoc}
 use Rattle.rules.specs.Numbers.{size-ok, largest-room}
 use Rattle.rules.specs.Sender.{Entry, size-held, new, with-entries}
 use Rattle.sender.specs.declared.Sender.{Sender}

@@ -9,7 +9,7 @@ use lib.ListN.{set, replicate, length-set, length-replicate}
 use borrow.Author.Tests.{lt-ltb, le-ltb}
 use Rattle.psn.specs.declared.Psn.{Psn}
 use Rattle.psn.specs.Psn.{turn, after}
-use Rattle.word.specs.Index.{total, table}
+use Rattle.lists.specs.Index.{total, table}
 use Rattle.word.specs.Word.{Bits}
 use Rattle.row.specs.Row.{at, Row}
 use Rattle.row.proofs.Rows.{row-set, at-zeros}

@@ -8,7 +8,7 @@ use lib.ListN.{length}
 use borrow.Author.Tests.{le-leb, lt-leb, eq-eqb, ne-eqb, not-true, not-false}
 use Rattle.psn.specs.declared.Psn.{Psn}
 use Rattle.rules.specs.Numbers.{after, psn, psn-ok, room-ok, size-ok, reason-ok}
-use Rattle.rules.specs.Lists.{update}
+use Rattle.lists.specs.Lists.{update}
 use Rattle.rules.specs.Outcome.{Refused, Done, refuse, started}
 use Rattle.rules.specs.Sender.{next, unsent, with-entries, new, fresh, start, send}
 use Rattle.rules.specs.Retire.{names-unsent, after-sack, report, sack}

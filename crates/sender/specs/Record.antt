@@ -5,7 +5,7 @@ use mathlib.Core.Logic.{_⊎_}
 use mathlib.Core.List.{List}
 use Prim.Native.Nat.{ℕ, _+_, _%_, _≤_, _<_}
 use lib.ListN.{length, getD, replicate}
-use Rattle.word.specs.Index.{table, total}
+use Rattle.lists.specs.Index.{table, total}
 use Rattle.row.specs.Row.{at}
 use Rattle.rules.specs.Numbers.{turn, psn, room-ok, size-ok, largest-room, words}
 use Rattle.rules.specs.Outcome.{left, answered}

@@ -19,7 +19,7 @@ use Rattle.rules.specs.Table as rule-table
 use Rattle.rules.specs.declared.Event.{Event}
 use Rattle.rules.specs.declared.Answer.{Answer}
 use Rattle.rules.specs.declared.Answer.the-variants as answer
-use Rattle.rules.proofs.Lists.{map-set, all-set, getD-alike}
+use Rattle.lists.proofs.Lists.{map-set, all-set, getD-alike}
 use Rattle.rules.proofs.Outcomes.{refuse-within}
 use Rattle.rules.proofs.Meeting.{refuses, part}
 use Rattle.connection.specs.declared.Connection.{Connection}

@@ -10,9 +10,9 @@ use lib.Pow.{pow-pos, pow-lt, pow-mono, shr-shr, shl-shr, field, mod-mod-pow}
 use lib.Bits.{bitAnd, bitOr, and-shr, and-step, or-shr, or-step, shifted-half, shifted-even}
 use lib.Count.{ones, onesIn, ones-step, trailingZeros, under}
 use borrow.Author.Tests.{eq-eqb, ne-eqb, lt-ltb, le-ltb}
-use Rattle.word.specs.Index.{total, tally, First}
+use Rattle.lists.specs.Index.{total, tally, First}
 use Rattle.word.specs.Word.{bitAt, Bits}
-use Rattle.word.proofs.Index.{total-first, weigh-same}
+use Rattle.lists.proofs.Index.{total-first, weigh-same}
 
 -- a digit is 0 or 1
 two : (P : ℕ → Type 0) → P 0 → P 1 → (d : ℕ) → d < 2 → P d

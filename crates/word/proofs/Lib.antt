@@ -1,4 +1,3 @@
 -- What other crates cite: laws on functions of the index, on tests, and on a word's bits. Assumes nothing.
-pub mod Index
 pub mod Compare
 pub mod Bits

@@ -1,3 +1,2 @@
 -- Functions of the index, and a word's bits as one of them.
-pub mod Index
 pub mod Word

@@ -3,7 +3,7 @@ ghost use mathlib.Core.Path.{_≡_};
 ghost use mathlib.Core.Bool.{not, _&&_, _||_};
 ghost use Prim.Native.Nat.{_+_, _%_, _<_};
 ghost use lib.Dec.{eqb, ltb};
-ghost use Rattle.word.specs.Index.{First, tally};
+ghost use Rattle.lists.specs.Index.{First, tally};
 ghost use Rattle.word.specs.Word.{bitAt, Bits, inRange, bitOfTwo, onlyIn};
 
 // Whether bit i is set.

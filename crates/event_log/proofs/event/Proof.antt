@@ -7,7 +7,7 @@ use native.Mathlib.Nat.{le-antisymm}
 use native.Mathlib.Omega.{arith}
 use lib.Dec.{leb, ltb}
 use Rattle.rules.specs.Log.{layouts, widths, eventOf}
-use Rattle.rules.proofs.Joined.{and-true-each}
+use Rattle.lists.proofs.Joined.{and-true-each}
 use Rattle.event_log.proofs.event.Statement.{statement}
 use Rattle.event_log.proofs.event.Tie as tie
 

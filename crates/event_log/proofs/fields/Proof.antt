@@ -9,8 +9,8 @@ use native.Mathlib.Decide.{decLt}
 use native.Mathlib.Omega.{arith}
 use lib.ListN.{getD, take, drop, set, List·getD-eq-default}
 use lib.Seq.{take-all, drop-drop}
-use Rattle.word.specs.Index.{table}
-use Rattle.rules.specs.Lists.{sum}
+use Rattle.lists.specs.Index.{table}
+use Rattle.lists.specs.Lists.{sum}
 use Rattle.rules.specs.Log.{widths, number, number-all}
 use Rattle.rules.proofs.Spelling.{Bytes, bytes-drop, number-take-lt}
 use Rattle.rules.proofs.Fields.{length-number-all}

@@ -7,7 +7,7 @@ use native.Mathlib.Numerals.{add-one}
 use native.Mathlib.Omega.{arith}
 use lib.ListN.{length, getD, take, length-set}
 use lib.Seq.{sets, length-sets}
-use Rattle.rules.specs.Lists.{sum}
+use Rattle.lists.specs.Lists.{sum}
 use Rattle.rules.specs.Paper.{kindOf, fieldsOf}
 use Rattle.rules.specs.Log.{widths, whole, spell, spell-all, encode}
 use Rattle.rules.specs.declared.Event.{Event}

@@ -2,7 +2,7 @@
 use mathlib.Core.Path.{_≡_, refl}
 use mathlib.Core.List.{[]}
 use Prim.Native.Nat.{ℕ, zero, suc}
-use Rattle.word.specs.Index.{table}
+use Rattle.lists.specs.Index.{table}
 use Rattle.rules.specs.Log.{layouts, widths}
 use Rattle.event_log.specs.Parts.{padded}
 use Rattle.event_log.proofs.layout.Statement.{statement}

@@ -1,7 +1,7 @@
 -- `event_log::values` meets its contract, arm by arm. Assumes nothing.
 use borrow.Author.Needs.{needs}
 use mathlib.Core.Path.{sym, ap}
-use Rattle.word.specs.Index.{table}
+use Rattle.lists.specs.Index.{table}
 use Rattle.rules.specs.Paper.{fieldsOf}
 use Rattle.event_log.specs.Parts.{padded}
 use Rattle.event_log.proofs.values.Statement.{statement}

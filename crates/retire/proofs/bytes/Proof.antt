@@ -5,9 +5,9 @@ use Prim.Native.Nat.{ℕ, _+_, _-_, _*_, _/_, _%_, _^_, _≤_, _<_}
 use native.Mathlib.Omega.{arith}
 use native.Mathlib.Nat.{div-one}
 use lib.ListN.{getD}
-use Rattle.word.specs.Index.{total, weigh}
+use Rattle.lists.specs.Index.{total, weigh}
 use Rattle.word.specs.Word.{bitAt}
-use Rattle.word.proofs.Index.{total-same}
+use Rattle.lists.proofs.Index.{total-same}
 use Rattle.rules.specs.Numbers.{largest-room}
 use Rattle.retire.specs.Rows.{sizeAt}
 use Rattle.retire.proofs.Naming.{size-low}

@@ -3,7 +3,7 @@ use Prim.Native.Nat.{ℕ, _+_, _-_, _*_, _%_, _≤_}
 use native.Mathlib.Omega.{arith}
 use lib.ListN.{length, getD}
 use Rattle.word.specs.Word.{bitAt, onlyIn}
-use Rattle.word.proofs.Index.{tally-le}
+use Rattle.lists.proofs.Index.{tally-le}
 use Rattle.rules.specs.Numbers.{largest-room}
 use Rattle.retire.specs.Rows.{fresh, names, sizeAt}
 use Rattle.retire.proofs.Words.{Upto, upto-none, upto-more, all-retired, weigh-le}

@@ -4,7 +4,7 @@ use mathlib.Core.Bool.{false, not}
 use Prim.Native.Nat.{ℕ, _-_, _≤_, _<_}
 use native.Mathlib.Omega.{arith}
 use borrow.Author.Count.{below-none}
-use Rattle.word.proofs.Index.{none-more, first-here, first-end}
+use Rattle.lists.proofs.Index.{none-more, first-here, first-end}
 use Rattle.row.specs.Row.{isClear}
 use borrow.Author.Needs.{needs}
 use Rattle.row.proofs.run.Statement.{statement}

@@ -4,7 +4,7 @@ use Prim.Native.Nat.{_-_, _^_}
 use lib.Bits.{bitAnd, and-lt}
 use lib.Pow.{ones-sub-lt}
 use Rattle.word.proofs.Bits.{bit-and-not, ones-total}
-use Rattle.word.proofs.Index.{weigh-same}
+use Rattle.lists.proofs.Index.{weigh-same}
 use Rattle.word.proofs.newly.Statement.{statement}
 use Rattle.word.proofs.newly.Tie as tie
 

@@ -33,3 +33,8 @@ unfoldable pub update : {A : Type 0} → (A → A) → List A → ℕ → List A
 update g [] i = []
 update g (a ∷ l) zero = g a ∷ l
 update g (a ∷ l) (suc i) = a ∷ update g l i
+
+-- every entry of a list
+unfoldable pub All : {A : Type 0} → (A → Type 0) → List A → Type 0
+All P [] = Unit {0}
+All P (a ∷ l) = P a × All P l

@@ -1,6 +1,6 @@
 -- What the rules' words for lists do to the table of a function, each by the table's length. Assumes nothing.
 use mathlib.Core.Path.{_≡_, refl, sym, ap, ap₂, _∙_}
-use mathlib.Core.Bool.{Bool, false, not, cond, _&&_}
+use mathlib.Core.Bool.{Bool, false, not, cond}
 use mathlib.Core.List.{List, _∷_}
 use Prim.Native.Nat.{ℕ, zero, suc, _+_, _≤_, _<_}
 use native.Mathlib.Omega.{arith}
@@ -8,12 +8,10 @@ use native.Mathlib.Decide.{decLt}
 use lib.Dec.{eqb, eqb·suc-suc}
 use lib.ListN.{getD, List·getD-eq-default}
 use borrow.Author.Tests.{ne-eqb, not-true, not-false}
-use Rattle.word.specs.Index.{total, tally, First, table}
-use Rattle.word.proofs.Index.{length-table, getD-table, is-table, total-first, table-same}
-use Rattle.rules.specs.Lists.{lead, slide, sum, update}
-use Rattle.rules.specs.Sender.{Entry}
-use Rattle.rules.specs.Retire.{retire, retired, newly}
-use Rattle.rules.proofs.Lists.{getD-slide, length-slide}
+use Rattle.lists.specs.Index.{total, First, table}
+use Rattle.lists.proofs.Index.{length-table, getD-table, is-table, total-first, table-same}
+use Rattle.lists.specs.Lists.{lead, slide, sum, update}
+use Rattle.lists.proofs.Lists.{getD-slide, length-slide}
 
 -- those that stand true before the first that is false
 pub lead-table : (n : ℕ) (f : ℕ → Bool) (k : ℕ) → First (λ i. not (f i)) n k → lead (table n f) ≡ k
@@ -52,16 +50,3 @@ update-table {A} g (suc n) f zero =
 update-table {A} g (suc n) f (suc i) =
     ap₂ (λ (x : A) (l : List A). x ∷ l) (sym (ap (λ (b : Bool). cond b (g (f zero)) (f zero)) (ne-eqb zero (suc i) (omega arith))))
     (update-table g n (λ j. f (suc j)) i ∙ table-same n _ _ (λ j p. ap (λ (b : Bool). cond b (g (f (suc j))) (f (suc j))) (sym (eqb·suc-suc j i))))
-
--- ---- entries
-pub retire-table : (g : ℕ → Bool) (n : ℕ) (f : ℕ → Entry) → retire g (table n f) ≡ table n (λ i. cond (g i) (retired (f i)) (f i))
-unfolding retire table
-retire-table g zero f = refl
-retire-table g (suc n) f = ap (λ (l : List Entry). cond (g zero) (retired (f zero)) (f zero) ∷ l) (retire-table (λ i. g (suc i)) n (λ i. f (suc i)))
-
-pub newly-table : (g : ℕ → Bool) (n : ℕ) (f : ℕ → Entry) → newly g (table n f) ≡ tally n (λ i. g i && not (f i .retired))
-unfolding newly table total
-newly-table g zero f = refl
-newly-table g (suc n) f =
-    ap (λ (m : ℕ). cond (g zero && not (f zero .retired)) 1 0 + m) (newly-table (λ i. g (suc i)) n (λ i. f (suc i)))
-    ∙ sym (total-first n (λ i. cond (g i && not (f i .retired)) 1 0))

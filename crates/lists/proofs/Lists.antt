@@ -8,8 +8,7 @@ use native.Mathlib.Omega.{arith}
 use native.Mathlib.Decide.{ℕ-discrete}
 use lib.ListN.{length, getD, drop, set, replicate, length-append, length-drop, length-replicate}
 use lib.Seq.{getD-drop}
-use Rattle.rules.specs.Lists.{lead, slide, any, update}
-use Rattle.rules.specs.Kept.{All}
+use Rattle.lists.specs.Lists.{lead, slide, any, update, All}
 
 -- ---- lead
 pub lead-true : (l : List Bool) (i : ℕ) → i < lead l → getD l i false ≡ true

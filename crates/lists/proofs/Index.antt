@@ -11,7 +11,7 @@ use lib.ListN.{length, getD, take, drop, set, length-set}
 use lib.Seq.{getD-set-same, getD-set-other, ext-getD}
 use borrow.Author.Count.{below-more}
 use borrow.Author.Tests.{eq-eqb, ne-eqb}
-use Rattle.word.specs.Index.{total, weigh, tally, First, table}
+use Rattle.lists.specs.Index.{total, weigh, tally, First, table}
 
 -- ---- sums
 pub total-same : (n : ℕ) (f g : ℕ → ℕ) → ((i : ℕ) → i < n → f i ≡ g i) → total n f ≡ total n g

@@ -1,0 +1,5 @@
+-- Laws on tests, on functions of the index and on lists. Assumes nothing.
+pub mod Joined
+pub mod Index
+pub mod Lists
+pub mod Tables
