@@ -1,7 +1,7 @@
 // Which numbers an event may carry. Every function takes any number.
 ghost use mathlib.Core.Path.{_≡_};
 ghost use Prim.Native.Nat.{_%_};
-ghost use Rattle.word.specs.Word.{bitAt};
+ghost use Rattle.word.specs.Word.{bit-at};
 ghost use Rattle.rules.specs.Numbers.{psn-ok, room-ok, size-ok, flags-ok, reason-ok};
 use psn::Psn;
 use psn::TURN;
@@ -61,7 +61,7 @@ pub fn reason_ok(reason: u8) -> bool
 
 // Whether a flag's bit is set.
 pub fn flag(flags: u8, i: u32) -> bool
-    ensures { λ r. ⌜ r ≡ bitAt flags (i % 64) ⌝ }
+    ensures { λ r. ⌜ r ≡ bit-at flags (i % 64) ⌝ }
 {
     word::test(flags as u64, i)
 }

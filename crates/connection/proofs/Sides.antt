@@ -25,7 +25,7 @@ use Rattle.receiver.specs.Held as held
 use Rattle.receiver.specs.Record as receiver
 use Rattle.connection.specs.declared.Connection.{Connection}
 use Rattle.connection.specs.declared.Stepped.{Stepped}
-use Rattle.connection.specs.Record.{meaning, empty, Sound, sentBy, receivedBy}
+use Rattle.connection.specs.Record.{meaning, empty, Sound, sent-by, received-by}
 
 -- ---- the record of no connection means the rules' own
 pub empty-means : meaning empty ≡ rule.empty
@@ -63,9 +63,9 @@ sender-in-use x y o a = with-room sender.Started sender.empty sender.meaning (λ
 
 pub receiver-in-use : (x y : Receiver) (o : Outcome rule-receiver.Receiver) (a : Answer)
     → room-ok (rule-receiver.room (left (receiver.meaning x) o)) ≡ true
-    → Meets receiver.Sound receiver.meaning x o a y → held.Started (receiver.heldOf y)
+    → Meets receiver.Sound receiver.meaning x o a y → held.Started (receiver.held-of y)
 unfolding held.meaning table
-receiver-in-use x y o a = with-room (λ r. held.Started (receiver.heldOf r)) receiver.empty receiver.meaning rule-receiver.room x y o a refl
+receiver-in-use x y o a = with-room (λ r. held.Started (receiver.held-of r)) receiver.empty receiver.meaning rule-receiver.room x y o a refl
 
 module _ (c : Connection) (sound : Sound c) where
   -- ---- an event on the sending side, with the outcome o: it keeps the room, and an empty side refuses it
@@ -85,7 +85,7 @@ module _ (c : Connection) (sound : Sound c) where
         go (inr s) = inr (record { sends = sender-in-use (c .sender) y o a (ap room-ok (kept .holds) ∙ s .sends .room-good) m; receives = s .receives })
 
     -- what the side gives is what the connection gives
-    pub by-sender : {p : Outcome rule.Connection} {r : Stepped} (out : sending.Stepped) → p ≡ within (with-sender (meaning c)) o → r ≡ sentBy c out
+    pub by-sender : {p : Outcome rule.Connection} {r : Stepped} (out : sending.Stepped) → p ≡ within (with-sender (meaning c)) o → r ≡ sent-by c out
         → Meets sender.Sound sender.meaning (c .sender) o (out .answer) (out .«record») → Meets Sound meaning c p (r .answer) (r .«record»)
     by-sender out e f m = rw (e, f) (on-sender (out .answer) (out .«record») m)
 
@@ -106,9 +106,9 @@ module _ (c : Connection) (sound : Sound c) where
         go (inr s) = inr (record {
           sends = s .sends;
           receives = receiver-in-use (c .receiver) y o a
-              (ap room-ok (kept .holds ∙ length-table (c .receiver .room) (held.accepted (receiver.heldOf (c .receiver)))) ∙ s .receives .room-good) m;
+              (ap room-ok (kept .holds ∙ length-table (c .receiver .room) (held.accepted (receiver.held-of (c .receiver)))) ∙ s .receives .room-good) m;
         })
 
-    pub by-receiver : {p : Outcome rule.Connection} {r : Stepped} (out : Arrived) → p ≡ within (with-receiver (meaning c)) o → r ≡ receivedBy c out
+    pub by-receiver : {p : Outcome rule.Connection} {r : Stepped} (out : Arrived) → p ≡ within (with-receiver (meaning c)) o → r ≡ received-by c out
         → Meets receiver.Sound receiver.meaning (c .receiver) o (out .answer) (out .«record») → Meets Sound meaning c p (r .answer) (r .«record»)
     by-receiver out e f m = rw (e, f) (on-receiver (out .answer) (out .«record») m)

@@ -57,7 +57,7 @@ module _ (n : ℕ) (p : Psn) (good : room-ok n ≡ true) (low : psn-ok p ≡ tru
     unfolding rule-receiver.start left
     receives-fresh = m .record-is ∙ ap (left (receiver.meaning receiver.empty)) (started-done (room-ok n) (psn-ok p) (rule-receiver.fresh n (p .0)) good low)
 
-    receives : held.Started (receiver.heldOf y)
+    receives : held.Started (receiver.held-of y)
     unfolding rule-receiver.fresh
     receives =
         receiver-in-use receiver.empty y (rule-receiver.start n p) a

@@ -20,15 +20,15 @@ empty = record { sender = sender.empty; receiver = receiver.empty }
 -- both sides were started
 pub record Started (c : Connection) : Type 0 where
   pub sends : sender.Started (c .sender)
-  pub receives : held.Started (receiver.heldOf (c .receiver))
+  pub receives : held.Started (receiver.held-of (c .receiver))
 
 -- "A record is empty (all zero) or comes from a start and the events after it"
 abbrev pub Sound : Connection → Type 0
 Sound c = (c ≡ empty) ⊎ Started c
 
 -- an event on one side: the other comes back as it was
-abbrev pub sentBy : Connection → sending.Stepped → Stepped
-sentBy c out = record { answer = out .answer; «record» = record { sender = out .record; receiver = c .receiver } }
+abbrev pub sent-by : Connection → sending.Stepped → Stepped
+sent-by c out = record { answer = out .answer; «record» = record { sender = out .record; receiver = c .receiver } }
 
-abbrev pub receivedBy : Connection → Arrived → Stepped
-receivedBy c out = record { answer = out .answer; «record» = record { sender = c .sender; receiver = out .record } }
+abbrev pub received-by : Connection → Arrived → Stepped
+received-by c out = record { answer = out .answer; «record» = record { sender = c .sender; receiver = out .record } }

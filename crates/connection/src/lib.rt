@@ -1,8 +1,8 @@
 // One connection by value: a sender and a receiver that share nothing. An event touches one side, and the other comes back as it was.
 ghost use mathlib.Core.Path.{_≡_};
-ghost use Rattle.rules.specs.Connection.{close as closeOf, start as startOf, step as stepOf};
+ghost use Rattle.rules.specs.Connection.{close as close-of, start as start-of, step as step-of};
 ghost use Rattle.rules.specs.Promise.{Meets};
-ghost use Rattle.connection.specs.Record.{empty as emptyOf, meaning, Sound, sentBy, receivedBy};
+ghost use Rattle.connection.specs.Record.{empty as empty-of, meaning, Sound, sent-by, received-by};
 use psn::Psn;
 use receiver::Arrived;
 use receiver::Receiver;
@@ -24,7 +24,7 @@ pub struct Stepped {
 impl Connection {
     // The record of no connection: all zero.
     pub fn empty() -> Connection
-        ensures { λ r. ⌜ r ≡ emptyOf ⌝ }
+        ensures { λ r. ⌜ r ≡ empty-of ⌝ }
     {
         Connection {
             sender: Sender::empty(),
@@ -44,7 +44,7 @@ impl Connection {
 
     // The connection after an event on its sending side.
     fn sent(self, out: sender::Stepped) -> Stepped
-        ensures { λ r. ⌜ r ≡ sentBy self out ⌝ }
+        ensures { λ r. ⌜ r ≡ sent-by self out ⌝ }
     {
         let answer = out.answer;
         let sender = out.record;
@@ -57,7 +57,7 @@ impl Connection {
 
     // The connection after an event on its receiving side.
     fn received(self, out: Arrived) -> Stepped
-        ensures { λ r. ⌜ r ≡ receivedBy self out ⌝ }
+        ensures { λ r. ⌜ r ≡ received-by self out ⌝ }
     {
         let answer = out.answer;
         let receiver = out.record;
@@ -71,7 +71,7 @@ impl Connection {
     // A start, in place of this record if it is allowed.
     fn restart(self, send_room: u32, send_psn: Psn, receive_room: u32, receive_psn: Psn) -> Stepped
         requires { ⌜ Sound self ⌝ }
-        ensures { λ r. ⌜ Meets Sound meaning self (startOf «send_room» «send_psn» «receive_room» «receive_psn») (r .answer) (r .record) ⌝ }
+        ensures { λ r. ⌜ Meets Sound meaning self (start-of «send_room» «send_psn» «receive_room» «receive_psn») (r .answer) (r .record) ⌝ }
     {
         if !allowed::room_ok(send_room) {
             return self.refused(4);
@@ -97,7 +97,7 @@ impl Connection {
 
     // A start. Refused, it hands back the empty record.
     pub fn start(send_room: u32, send_psn: Psn, receive_room: u32, receive_psn: Psn) -> Stepped
-        ensures { λ r. ⌜ Meets Sound meaning emptyOf (startOf «send_room» «send_psn» «receive_room» «receive_psn») (r .answer) (r .record) ⌝ }
+        ensures { λ r. ⌜ Meets Sound meaning empty-of (start-of «send_room» «send_psn» «receive_room» «receive_psn») (r .answer) (r .record) ⌝ }
     {
         Connection::empty().restart(send_room, send_psn, receive_room, receive_psn)
     }
@@ -105,7 +105,7 @@ impl Connection {
     // A close.
     pub fn close(self) -> Stepped
         requires { ⌜ Sound self ⌝ }
-        ensures { λ r. ⌜ Meets Sound meaning self (closeOf (meaning self)) (r .answer) (r .record) ⌝ }
+        ensures { λ r. ⌜ Meets Sound meaning self (close-of (meaning self)) (r .answer) (r .record) ⌝ }
     {
         let sender = self.sender;
         let room = sender.room;
@@ -121,7 +121,7 @@ impl Connection {
     // An event.
     pub fn step(self, event: Event) -> Stepped
         requires { ⌜ Sound self ⌝ }
-        ensures { λ r. ⌜ Meets Sound meaning self (stepOf (meaning self) event) (r .answer) (r .record) ⌝ }
+        ensures { λ r. ⌜ Meets Sound meaning self (step-of (meaning self) event) (r .answer) (r .record) ⌝ }
     {
         let sender = self.sender;
         let receiver = self.receiver;

@@ -10,7 +10,7 @@ use lib.ListN.{length}
 use borrow.Author.Tests.{eq-eqb, ne-eqb}
 use Rattle.rules.specs.Numbers.{size-ok}
 use Rattle.lists.specs.Lists.{All}
-use Rattle.delivery.specs.Network.{sizeOf}
+use Rattle.delivery.specs.Network.{size-of}
 use Rattle.delivery.proofs.Sets.{plus, plus-same, plus-other}
 
 -- every packet sent has a good size
@@ -26,13 +26,13 @@ unfolding total
 total-same A B [] h = refl
 total-same A B (z ∷ l) h = ap₂ (λ (t : ℕ) (b : Bool). t + cond b z 0) (total-same A B l (λ j p. h j (omega arith))) (h (length l) (omega arith))
 
-pub total-plus : (A : ℕ → Bool) (i : ℕ) (l : List ℕ) → i < length l → A i ≡ false → total (plus i A) l ≡ total A l + sizeOf l i
-unfolding total sizeOf
+pub total-plus : (A : ℕ → Bool) (i : ℕ) (l : List ℕ) → i < length l → A i ≡ false → total (plus i A) l ≡ total A l + size-of l i
+unfolding total size-of
 total-plus A i [] h a = absurd (omega arith)
 total-plus A i (z ∷ l) h a = go (ℕ-discrete i (length l)) (λ p. total-plus A i l p a)
   where
-    go : Dec (i ≡ length l) → (i < length l → total (plus i A) l ≡ total A l + sizeOf l i)
-        → total (plus i A) l + cond (plus i A (length l)) z 0 ≡ total A l + cond (A (length l)) z 0 + cond (eqb (length l) i) z (sizeOf l i)
+    go : Dec (i ≡ length l) → (i < length l → total (plus i A) l ≡ total A l + size-of l i)
+        → total (plus i A) l + cond (plus i A (length l)) z 0 ≡ total A l + cond (A (length l)) z 0 + cond (eqb (length l) i) z (size-of l i)
     go (yes e) rest =
         let same : total (plus i A) l ≡ total A l = total-same (plus i A) A l (λ j p. plus-other i j A (omega arith)) in
         let out : A (length l) ≡ false = ap A (sym e) ∙ a in
@@ -44,10 +44,10 @@ pub total-older : (A : ℕ → Bool) (z : ℕ) (l : List ℕ) → A (length l) �
 unfolding total
 total-older A z l out = rw out (omega arith)
 
-pub sizeOf-older : (z : ℕ) (l : List ℕ) (i : ℕ) → i < length l → sizeOf (z ∷ l) i ≡ sizeOf l i
-unfolding sizeOf
+pub sizeOf-older : (z : ℕ) (l : List ℕ) (i : ℕ) → i < length l → size-of (z ∷ l) i ≡ size-of l i
+unfolding size-of
 sizeOf-older z l i h = rw (ne-eqb (length l) i (omega arith))
 
-pub sizeOf-newest : (z : ℕ) (l : List ℕ) → sizeOf (z ∷ l) (length l) ≡ z
-unfolding sizeOf
+pub sizeOf-newest : (z : ℕ) (l : List ℕ) → size-of (z ∷ l) (length l) ≡ z
+unfolding size-of
 sizeOf-newest z l = rw (eq-eqb (length l) (length l) refl)

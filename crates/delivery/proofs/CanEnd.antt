@@ -9,15 +9,15 @@ use native.Mathlib.Decide.{ℕ-discrete, decLt}
 use lib.ListN.{length}
 use borrow.Author.Tests.{lt-ltb, le-leb}
 use Rattle.psn.proofs.Circle.{after-lt, back}
-use Rattle.word.specs.Word.{bitAt}
+use Rattle.word.specs.Word.{bit-at}
 use Rattle.rules.specs.Numbers.{turn, half, after, distance, size-ok, flags-ok}
 use Rattle.rules.specs.Outcome.{Outcome, refuse, left, answered}
-use Rattle.rules.specs.Receiver.{Receiver, judge, known, verdict, accept, sackOf, judged, arrive}
+use Rattle.rules.specs.Receiver.{Receiver, judge, known, verdict, accept, sack-of, judged, arrive}
 use Rattle.lists.specs.Lists.{All}
 use Rattle.rules.specs.declared.Arrival.{Arrival}
 use Rattle.rules.specs.declared.Sack.{Sack}
 use Rattle.rules.specs.declared.Verdict.the-variants.{Fresh, Known}
-use Rattle.delivery.specs.Network.{Start, Packet, Fate, Message, Acks, accepts, message, Note, World, sizeOf, with-sender, heard}
+use Rattle.delivery.specs.Network.{Start, Packet, Fate, Message, Acks, accepts, message, Note, World, size-of, with-sender, heard}
 use Rattle.delivery.specs.Network.{on-hear, arrival, with-receiver, noted, reply, on-arrive, base-number, Near, Readable}
 use Rattle.delivery.specs.Network.{Run, still, sends, resends, timers, hears, arrives}
 use Rattle.delivery.specs.Promise.{among, plain}
@@ -56,7 +56,7 @@ module _ {s : Start} {w : World} (I : Inv s w) (n : Note) (there : List·Memᴰ 
   here-near : Near (n .here) (w .low)
   here-near = near-ahead (I .keeps) (I .bound) (n .here) k tells (omega arith)
 
-  bits-near : (j : ℕ) → j < 64 → bitAt (k .block .bitmap) j ≡ true → Near (base-number (n .here) k + j + 1) (w .low)
+  bits-near : (j : ℕ) → j < 64 → bit-at (k .block .bitmap) j ≡ true → Near (base-number (n .here) k + j + 1) (w .low)
   bits-near = bits-near-ahead (I .keeps) (I .bound) (n .here) k tells (omega arith)
 
   readable : Readable (w .low) n (n .reply)
@@ -85,18 +85,18 @@ past {w = w} I i is e = at-least (I .holds .missing) (suc i) (λ j h. elim (decL
 clean : Fate
 clean = record { entropy = 0; flags = 0; cut = 0 }
 
-size-sent : (l : List ℕ) (i : ℕ) → Sizes l → i < length l → size-ok (sizeOf l i) ≡ true
+size-sent : (l : List ℕ) (i : ℕ) → Sizes l → i < length l → size-ok (size-of l i) ≡ true
 unfolding All
 size-sent [] i k h = absurd (omega arith)
 size-sent (z ∷ l) i k h = elim (ℕ-discrete i (length l)) [
-  | yes e ↦ ap (λ (j : ℕ). size-ok (sizeOf (z ∷ l) j)) e ∙ ap size-ok (sizeOf-newest z l) ∙ k .0
+  | yes e ↦ ap (λ (j : ℕ). size-ok (size-of (z ∷ l) j)) e ∙ ap size-ok (sizeOf-newest z l) ∙ k .0
   | no e ↦ ap size-ok (sizeOf-older z l i (omega arith)) ∙ size-sent l i (k .1) (omega arith)
 ]
 
 -- what is behind E is known
 known-arrives : {s : Start} {A : ℕ → Bool} {r : Receiver} {at : ℕ} → Holds s A r at → (i z : ℕ) → size-ok z ≡ true → i < at → at ≤ i + half
     → arrive r (plain (after (s .first) i) z) ≡ judged r (plain (after (s .first) i) z) Known
-unfolding arrive plain bitAt flags-ok refuse verdict judge known
+unfolding arrive plain bit-at flags-ok refuse verdict judge known
 known-arrives {s} {r = r} {at = at} H i z good h near =
     let p : ℕ = after (s .first) i in
     let d : ℕ = distance (r .expected) p in
@@ -139,7 +139,7 @@ module _ {s : Start} {w : World} (I : Inv s w) (p : Packet) (there : List·Mem�
   size-good = let C = I .carried p there in ap size-ok (C .size-is) ∙ size-sent (w .sent) (p .number) (I .sizes) (C .was-sent)
 
   arrive-acked : (b : Bool) → among (w .accepted) (p .number) ≡ b → Acked w (on-arrive w p clean) (p .number)
-  unfolding on-arrive arrival clean plain bitAt reply message answered left judged accepts among plus with-receiver
+  unfolding on-arrive arrival clean plain bit-at reply message answered left judged accepts among plus with-receiver
   arrive-acked true e =
       let r = w .receiving in
       let i = p .number in
@@ -149,7 +149,7 @@ module _ {s : Start} {w : World} (I : Inv s w) (p : Packet) (there : List·Mem�
       subst (λ (q : ℕ). arrive r (plain q z) ≡ judged r (plain q z) Known) (sym (I .carried p there .psn-is))
       (known-arrives (I .holds) i z size-good (past I i is e) (omega (arith, near))) in
       subst (λ (o : Outcome Receiver). Acked w (reply (with-receiver w (left r o)) i (message (answered o))) i) (sym met)
-      (acked w r (w .accepted) i false (sackOf r a) e)
+      (acked w r (w .accepted) i false (sack-of r a) e)
   arrive-acked false e =
       let r = w .receiving in
       let i = p .number in
@@ -160,7 +160,7 @@ module _ {s : Start} {w : World} (I : Inv s w) (p : Packet) (there : List·Mem�
       subst (λ (q : ℕ). arrive r (plain q z) ≡ judged r (plain q z) Fresh) (sym (I .carried p there .psn-is))
       (plain-arrives (I .holds) i z size-good e (omega (arith, not-ahead I, room-some (s .receive-room) (s .receive-good)))) in
       subst (λ (o : Outcome Receiver). Acked w (reply (with-receiver w (left r o)) i (message (answered o))) i) (sym met)
-      (acked w (accept r a) (i ∷ w .accepted) i true (sackOf (accept r a) a) (plus-same i i (among (w .accepted)) refl))
+      (acked w (accept r a) (i ∷ w .accepted) i true (sack-of (accept r a) a) (plus-same i i (among (w .accepted)) refl))
 
   onward : (v : World) × Onward w v
   onward =

@@ -12,7 +12,7 @@ use Rattle.rules.specs.Retire.{is-retired}
 use Rattle.rules.specs.Marks.{unmarked}
 use Rattle.rules.proofs.Unfold.{rules}
 use Rattle.delivery.specs.Network.{Start, Packet, Fate, Silent, Acks, Note, World, accepts, message, begin, with-sender, put}
-use Rattle.delivery.specs.Network.{on-send, sizeOf, again, on-resend, on-timer, heard, on-hear, arrival, with-receiver, noted}
+use Rattle.delivery.specs.Network.{on-send, size-of, again, on-resend, on-timer, heard, on-hear, arrival, with-receiver, noted}
 use Rattle.delivery.specs.Network.{reply, on-arrive, base-number, Readable, Run, still, sends, resends, timers, hears, arrives}
 use Rattle.delivery.specs.Promise.{Promise, lossless, retired-at}
 use Rattle.delivery.proofs.Theorem.{demand-3}
@@ -20,7 +20,7 @@ use Rattle.delivery.proofs.Theorem.{demand-3}
 -- all definitions of the network under one name
 unfoldable network : Unit {0}
 unfolding accepts message begin
-    with-sender put on-send sizeOf again on-resend on-timer heard on-hear
+    with-sender put on-send size-of again on-resend on-timer heard on-hear
     arrival with-receiver noted reply on-arrive base-number Readable
 network = tt
 

@@ -12,10 +12,10 @@ use lib.ListN.{getD, take, drop, set, length-set, length-replicate}
 use lib.Seq.{getD-drop, getD-set-same, getD-set-other}
 use borrow.Author.Tests.{ltb-true, leb-false}
 use Rattle.psn.proofs.Circle.{after-zero, after-after, lands}
-use Rattle.word.specs.Word.{bitAt}
+use Rattle.word.specs.Word.{bit-at}
 use Rattle.rules.specs.Numbers.{turn, half, after, before, distance, trimmed, trimmed-last-hop, no-buffer}
 use Rattle.lists.specs.Lists.{lead}
-use Rattle.rules.specs.Receiver.{Receiver, room, unused, fresh, judge, known, beyond, verdict, accept, block-at, block, sackOf}
+use Rattle.rules.specs.Receiver.{Receiver, room, unused, fresh, judge, known, beyond, verdict, accept, block-at, block, sack-of}
 use Rattle.rules.specs.declared.Arrival.{Arrival}
 use Rattle.rules.specs.declared.Sack.{Sack}
 use Rattle.rules.specs.declared.Verdict.the-variants.{Fresh}
@@ -129,7 +129,7 @@ pub record Tells (s : Start) (A : ℕ → Bool) (here : ℕ) (k : Sack) : Type 0
   pub cack-is : k .cack .0 ≡ before (after (s .first) here)
   pub base-is : k .block .base .0 ≡ after (s .first) (base-number here k)
   pub to-cack : (i : ℕ) → i < here → A i ≡ true
-  pub bits : (j : ℕ) → bitAt (k .block .bitmap) j ≡ true → A (base-number here k + j) ≡ true
+  pub bits : (j : ℕ) → bit-at (k .block .bitmap) j ≡ true → A (base-number here k + j) ≡ true
 
 -- a bit is an entry of the window
 take-true : (n : ℕ) (l : List Bool) (i : ℕ) → getD (take n l) i false ≡ true → getD l i false ≡ true
@@ -150,8 +150,8 @@ module _ {s : Start} {A : ℕ → Bool} {r : Receiver} {at : ℕ} (H : Holds s A
       go true e = omega (arith, ltb-true d (room r) e, H .room-is, room-few (s .receive-room) (s .receive-good))
       go false e = omega arith
 
-  pub sack-tells : (a : Arrival) → Tells s A at (sackOf r a)
-  unfolding sackOf block base-number
+  pub sack-tells : (a : Arrival) → Tells s A at (sack-of r a)
+  unfolding sack-of block base-number
   sack-tells a =
       let o : ℕ = block-at r (a .psn .0) in
       let cack : before (r .expected) ≡ before (after (s .first) at) = ap before (H .expected-is) in

@@ -13,7 +13,7 @@ use borrow.Author.Tests.{leb-false, not-false}
 use Rattle.rules.specs.Numbers.{turn, after, distance, psn, size-ok, reason-ok, trimmed, trimmed-last-hop}
 use Rattle.lists.specs.Lists.{lead, update}
 use Rattle.rules.specs.Outcome.{Outcome, left, answered}
-use Rattle.rules.specs.Receiver.{Receiver, verdict, accept, sackOf, reasonOf, nackOf, judged, arrive}
+use Rattle.rules.specs.Receiver.{Receiver, verdict, accept, sack-of, reason-of, nack-of, judged, arrive}
 use Rattle.rules.specs.Receiver as receiver
 use Rattle.rules.specs.Sender.{Sender, outstanding, nth, next, with-entries, new, send}
 use Rattle.rules.specs.Sender as sender
@@ -28,7 +28,7 @@ use Rattle.rules.specs.declared.Verdict.the-variants.{Fresh, Known, Beyond, NoB
 use Rattle.lists.proofs.Joined.{never-true}
 use Rattle.rules.proofs.Outcomes.{through, After, after-refuse, after-done}
 use Rattle.delivery.specs.Network.{Start, Packet, Fate, Message, Silent, Goes, Acks, Nacks, accepts, message, Note, World, begin}
-use Rattle.delivery.specs.Network.{with-sender, put, on-send, sizeOf, again, on-resend, on-timer, heard, on-hear, arrival}
+use Rattle.delivery.specs.Network.{with-sender, put, on-send, size-of, again, on-resend, on-timer, heard, on-hear, arrival}
 use Rattle.delivery.specs.Network.{with-receiver, noted, reply, on-arrive, Near, Readable}
 use Rattle.delivery.specs.Network.{Run, still, sends, resends, timers, hears, arrives}
 use Rattle.delivery.specs.Promise.{among, Once}
@@ -44,7 +44,7 @@ use Rattle.delivery.proofs.Keeps.{keeps-more, keeps-send, next-number, 
 pub record Carries (s : Start) (sent : List ℕ) (p : Packet) : Type 0 where
   pub psn-is : p .psn ≡ after (s .first) (p .number)
   pub was-sent : p .number < length sent
-  pub size-is : p .size ≡ sizeOf sent (p .number)
+  pub size-is : p .size ≡ size-of sent (p .number)
 
 -- and packet i stays there
 pub record OnWire (wire : List Packet) (i : ℕ) : Type 0 where
@@ -168,7 +168,7 @@ module _ {s : Start} {w : World} (I : Inv s w) where
       → length (w .sent) ≤ length l
       → total (among (w .accepted)) l ≡ total (among (w .accepted)) (w .sent)
       → Sizes l
-      → ((i : ℕ) → i < length (w .sent) → sizeOf l i ≡ sizeOf (w .sent) i)
+      → ((i : ℕ) → i < length (w .sent) → size-of l i ≡ size-of (w .sent) i)
       → Carries s l (packet q)
       → ((i : ℕ) → i < length l → length (w .sent) ≤ i → packet q .number ≡ i)
       → Inv s (put (with-sender w x) l packet (Goes q))
@@ -290,7 +290,7 @@ module _ {s : Start} {w : World} (I : Inv s w) where
   module _ (p : Packet) (C : Carries s (w .sent) p) (near : Near (p .number) (w .at)) (f : Fate) where
     inv-fresh : verdict (w .receiving) (arrival p f) ≡ Fresh
         → Inv s (noted (with-receiver w (accept (w .receiving) (arrival p f))) (p .number ∷ w .accepted) (p .number)
-        (Acks true (sackOf (accept (w .receiving) (arrival p f)) (arrival p f))))
+        (Acks true (sack-of (accept (w .receiving) (arrival p f)) (arrival p f))))
     unfolding arrival Told among plus Once
     inv-fresh e =
         let i : ℕ = p .number in
@@ -306,23 +306,23 @@ module _ {s : Start} {w : World} (I : Inv s w) where
         let few : k < turn = accept-few (I .holds) a (N .inside) in
         let here : w .at + distance (r .expected) (r′ .expected) ≡ w .at + k =
         ap (λ (x : ℕ). w .at + x) (moved (s .first) (w .at) k (r .expected) (r′ .expected) (I .holds .expected-is) (H .expected-is) few) in
-        let size : a .size ≡ sizeOf (w .sent) i =
+        let size : a .size ≡ size-of (w .sent) i =
         size-whole (trimmed (f .flags)) (trimmed-last-hop (f .flags)) (f .cut) (p .size) (N .whole) (N .whole-last) ∙ C .size-is in
         inv-noted r′ (i ∷ w .accepted) i _ (rw here H)
         (λ j q. plus-more i j A q)
         (λ j q. elim (ℕ-discrete i j) [ yes y ↦ omega (arith, C .was-sent) | no y ↦ I .bound j (sym (plus-other i j A y) ∙ q) ])
-        (accept-count r a ∙ ap₂ (λ (x y : ℕ). (x + y) % 2 ^ 32) (I .counted) size ∙ mod-add-mod (total A (w .sent)) (2 ^ 32) (sizeOf (w .sent) i)
+        (accept-count r a ∙ ap₂ (λ (x y : ℕ). (x + y) % 2 ^ 32) (I .counted) size ∙ mod-add-mod (total A (w .sent)) (2 ^ 32) (size-of (w .sent) i)
         ∙ ap (λ (x : ℕ). x % 2 ^ 32) (sym (total-plus A i (w .sent) (C .was-sent) (N .unknown .absent))))
         (N .unknown .absent, I .once)
         (rw here (sack-tells H a))
 
-    names : (v : Verdict) → reason-ok (reasonOf v) ≡ true → Names s (length (w .sent)) (p .number) (nackOf v (arrival p f))
-    unfolding nackOf arrival
+    names : (v : Verdict) → reason-ok (reason-of v) ≡ true → Names s (length (w .sent)) (p .number) (nack-of v (arrival p f))
+    unfolding nack-of arrival
     names v good = record { psn-is = C .psn-is; was-sent = C .was-sent; reason-good = good }
 
     inv-judged : (v : Verdict) → verdict (w .receiving) (arrival p f) ≡ v
         → let o = judged (w .receiving) (arrival p f) v in Inv s (reply (with-receiver w (left (w .receiving) o)) (p .number) (message (answered o)))
-    unfolding judged left answered message accepts reply with-receiver Told reasonOf reason-ok
+    unfolding judged left answered message accepts reply with-receiver Told reason-of reason-ok
     inv-judged Fresh e = inv-fresh e
     inv-judged Known e = inv-same (p .number) _ (sack-tells (I .holds) (arrival p f))
     inv-judged Beyond e = inv-same (p .number) _ (names Beyond refl)

@@ -13,7 +13,7 @@ use lib.Seq.{getD-drop}
 use borrow.Author.Tests.{ltb-true, leb-true}
 use Rattle.psn.specs.declared.Psn.{Psn}
 use Rattle.psn.proofs.Circle.{after-zero, after-after, lands}
-use Rattle.word.specs.Word.{bitAt}
+use Rattle.word.specs.Word.{bit-at}
 use Rattle.rules.specs.Numbers.{turn, after, before, distance}
 use Rattle.lists.specs.Lists.{lead, update}
 use Rattle.rules.specs.Outcome.{left}
@@ -177,7 +177,7 @@ up-to-cack x cack i h = go (leb (distance (x .place) cack) (outstanding x)) refl
     go false e h = absurd (omega arith)
 
 module _ {s : Start} {A : ℕ → Bool} {n : ℕ} {x : Sender} {low : ℕ} (K : Keeps s A n x low) (here : ℕ) (k : Sack) (T : Tells s A here k)
-    (near : Near here low) (bits-near : (j : ℕ) → j < 64 → bitAt (k .block .bitmap) j ≡ true → Near (base-number here k + j + 1) low) where
+    (near : Near here low) (bits-near : (j : ℕ) → j < 64 → bit-at (k .block .bitmap) j ≡ true → Near (base-number here k + j + 1) low) where
   abbrev f : ℕ → Bool
   f = named x (k .cack .0) (k .block)
 
@@ -206,7 +206,7 @@ module _ {s : Start} {A : ℕ → Bool} {n : ℕ} {x : Sender} {low : ℕ} (K : 
   unfolding has-bit
   by-bit i h e =
       let d : ℕ = distance (k .block .base .0) (nth x i) in
-      let g = and-true-each (ltb d 64) (bitAt (k .block .bitmap) d) e in
+      let g = and-true-each (ltb d 64) (bit-at (k .block .bitmap) d) e in
       let d-small : d < 64 = ltb-true d 64 (g .0) in
       let b : ℕ = base-number here k in
       let nb = bits-near d d-small (g .1) in

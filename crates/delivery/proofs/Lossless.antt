@@ -9,7 +9,7 @@ use lib.ListN.{length}
 use borrow.Author.Tests.{lt-leb}
 use Rattle.rules.specs.Numbers.{after, size-ok}
 use Rattle.rules.specs.Outcome.{refuse, left, answered}
-use Rattle.rules.specs.Receiver.{Receiver, accept, sackOf, judged, arrive}
+use Rattle.rules.specs.Receiver.{Receiver, accept, sack-of, judged, arrive}
 use Rattle.rules.specs.Sender.{Sender, with-entries, new, send}
 use Rattle.rules.specs.Retire.{sack}
 use Rattle.lists.specs.Lists.{All}
@@ -92,7 +92,7 @@ module _ (s : Start) where
         let a : Arrival = plain (after (s .first) n) z in
         let met = plain-arrives H n z good (only-out n all n (omega arith)) (omega (arith, room-some (s .receive-room) (s .receive-good))) in
         let F : Holds s (only (suc n) all) (accept r a) (suc n) = rw met at G in
-        rw (rests, send-one, met) (sack-one (sackOf (accept r a) a) (sack-tells F a))
+        rw (rests, send-one, met) (sack-one (sack-of (accept r a) a) (sack-tells F a))
 
   pub lossless-sender : (l : List ℕ) → Sizes l → lossless s l .0 ≡ rest s (length l)
   unfolding lossless All

@@ -11,7 +11,7 @@ use lib.ListN.{length, set}
 use lib.Seq.{ext-getD}
 use borrow.Author.Tests.{lt-ltb, lt-leb}
 use Rattle.psn.proofs.Circle.{after-lt, ahead}
-use Rattle.word.specs.Word.{bitAt}
+use Rattle.word.specs.Word.{bit-at}
 use Rattle.rules.specs.Numbers.{turn, half, after, distance, size-ok, flags-ok}
 use Rattle.lists.specs.Lists.{lead}
 use Rattle.rules.specs.Outcome.{refuse, left}
@@ -47,7 +47,7 @@ module _ {s : Start} {A : ℕ → Bool} {r : Receiver} {at : ℕ} (H : Holds s A
       ap (λ (p : ℕ). distance p (after (s .first) i)) (H .expected-is) ∙ ahead (s .first) at i low (omega (arith, room-few (s .receive-room) (s .receive-good)))
 
   plain-fresh : verdict r (plain (after (s .first) i) z) ≡ Fresh
-  unfolding verdict known beyond judge plain bitAt
+  unfolding verdict known beyond judge plain bit-at
   plain-fresh =
       let d : ℕ = distance (r .expected) (after (s .first) i) in
       let d-is : d ≡ i - at = way in
@@ -56,7 +56,7 @@ module _ {s : Start} {A : ℕ → Bool} {r : Receiver} {at : ℕ} (H : Holds s A
       rw (lt-leb half d (omega arith), H .window-is d ∙ ap A (omega arith) ∙ new, lt-leb (room r) d (omega (arith, H .room-is)))
 
   pub plain-arrives : arrive r (plain (after (s .first) i) z) ≡ judged r (plain (after (s .first) i) z) Fresh
-  unfolding arrive plain bitAt flags-ok refuse
+  unfolding arrive plain bit-at flags-ok refuse
   plain-arrives =
       rw (receiver-used H, lt-ltb (after (s .first) i) turn (after-lt (s .first) i), good)
       (ap (judged r (plain (after (s .first) i) z)) plain-fresh)

@@ -11,7 +11,7 @@ use lib.ListN.{length, getD}
 use borrow.Author.Tests.{lt-ltb, le-ltb, le-leb, lt-leb}
 use Rattle.psn.proofs.Circle.{after-lt, after-after, ahead, back}
 use Rattle.psn.specs.declared.Psn.{Psn}
-use Rattle.word.specs.Word.{bitAt}
+use Rattle.word.specs.Word.{bit-at}
 use Rattle.rules.specs.Numbers.{turn, half, after, distance, reason-ok}
 use Rattle.lists.specs.Lists.{lead}
 use Rattle.rules.specs.Outcome.{Outcome, Done, refuse}
@@ -78,7 +78,7 @@ module _ {s : Start} {A : ℕ → Bool} {n : ℕ} {x : Sender} {low : ℕ} (K : 
     cack-at : k .cack .0 ≡ after (s .first) (here + (turn - 1))
     cack-at = T .cack-is ∙ after-after (s .first) here (turn - 1)
 
-    module _ (near : Near here low) (bits-near : (j : ℕ) → j < 64 → bitAt (k .block .bitmap) j ≡ true → Near (base-number here k + j + 1) low) where
+    module _ (near : Near here low) (bits-near : (j : ℕ) → j < 64 → bit-at (k .block .bitmap) j ≡ true → Near (base-number here k + j + 1) low) where
       abbrev c : ℕ
       c = distance (x .place) (k .cack .0)
 
@@ -95,7 +95,7 @@ module _ {s : Start} {A : ℕ → Bool} {n : ℕ} {x : Sender} {low : ℕ} (K : 
             rw (le-leb half c (omega arith)) (and-false (ltb (outstanding x) c))
       ]
 
-      bit-sent : (j : ℕ) → j < 64 → bitAt (k .block .bitmap) j ≡ true → unsent x (after (k .block .base .0) j) ≡ false
+      bit-sent : (j : ℕ) → j < 64 → bit-at (k .block .bitmap) j ≡ true → unsent x (after (k .block .base .0) j) ≡ false
       bit-sent j h e =
           let b : ℕ = base-number here k in
           let p : ℕ = after (k .block .base .0) j in
@@ -104,7 +104,7 @@ module _ {s : Start} {A : ℕ → Bool} {n : ℕ} {x : Sender} {low : ℕ} (K : 
 
       all-sent : names-unsent x (k .cack .0) (k .block) ≡ false
       unfolding names-unsent unsent-bit
-      all-sent = rw cack-sent (any-none 64 _ (λ j h. not-both (bitAt (k .block .bitmap) j) _ (bit-sent j h)))
+      all-sent = rw cack-sent (any-none 64 _ (λ j h. not-both (bit-at (k .block .bitmap) j) _ (bit-sent j h)))
 
       pub sack-taken : sack x (k .cack) (k .block) ≡ Done (after-sack x (k .cack .0) (k .block)) (report x (k .cack .0) (k .block))
       unfolding sack refuse
@@ -121,6 +121,6 @@ module _ {s : Start} {A : ℕ → Bool} {n : ℕ} {x : Sender} {low : ℕ} (K : 
     pub near-ahead : low ≤ here → Near here low
     near-ahead h = omega (arith, here-sent, K .next-is, K .room-left, room-few (s .send-room) (s .send-good))
 
-    pub bits-near-ahead : low ≤ here → (j : ℕ) → j < 64 → bitAt (k .block .bitmap) j ≡ true → Near (base-number here k + j + 1) low
+    pub bits-near-ahead : low ≤ here → (j : ℕ) → j < 64 → bit-at (k .block .bitmap) j ≡ true → Near (base-number here k + j + 1) low
     unfolding base-number
     bits-near-ahead h j l e = omega (arith, bound _ (T .bits j e), K .next-is, K .room-left, room-few (s .send-room) (s .send-good))

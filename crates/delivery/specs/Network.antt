@@ -6,7 +6,7 @@ use mathlib.Core.List.{List, [], _∷_, List·Memᴰ}
 use Prim.Native.Nat.{ℕ, _+_, _≤_, _<_}
 use lib.Dec.{eqb}
 use lib.ListN.{length}
-use Rattle.word.specs.Word.{bitAt}
+use Rattle.word.specs.Word.{bit-at}
 use Rattle.rules.specs.Numbers.{turn, half, after, distance, psn, room-ok, trimmed, trimmed-last-hop}
 use Rattle.rules.specs.Outcome.{left, answered}
 use Rattle.rules.specs.Receiver.{Receiver, arrive}
@@ -140,14 +140,14 @@ on-send w z =
     put (with-sender w (left (w .sending) o)) (z ∷ w .sent) (λ p. record { number = length (w .sent); psn = p; size = z }) (message (answered o))
 
 -- "a resent packet has the size it was first sent with"
-unfoldable pub sizeOf : List ℕ → ℕ → ℕ
-sizeOf [] i = 0
-sizeOf (z ∷ l) i = cond (eqb (length l) i) z (sizeOf l i)
+unfoldable pub size-of : List ℕ → ℕ → ℕ
+size-of [] i = 0
+size-of (z ∷ l) i = cond (eqb (length l) i) z (size-of l i)
 
 unfoldable pub again : World → ℕ → Packet
 again w p =
     let i = w .low + distance (nth (w .sending) 0) p in
-    record { number = i; psn = p; size = sizeOf (w .sent) i }
+    record { number = i; psn = p; size = size-of (w .sent) i }
 
 unfoldable pub on-resend : World → World
 on-resend w =
@@ -224,7 +224,7 @@ unfoldable pub Readable : ℕ → Note → Message → Type 0
 Readable low n Silent = Unit {0}
 Readable low n (Goes p) = Unit {0}
 Readable low n (Acks b k) =
-    Near (n .here) low × ((j : ℕ) → j < 64 → bitAt (k .block .bitmap) j ≡ true → Near (base-number (n .here) k + j + 1) low)
+    Near (n .here) low × ((j : ℕ) → j < 64 → bit-at (k .block .bitmap) j ≡ true → Near (base-number (n .here) k + j + 1) low)
 Readable low n (Nacks k) = Near (n .about + 1) low
 
 -- what can happen from a world v on, "whatever the order", any number of times. Loss is never being read.

@@ -11,8 +11,8 @@ use lib.ListN.{length, getD, take, set, length-take, List·getD-eq-default}
 use lib.Seq.{getD-take}
 use Rattle.lists.specs.Index.{table}
 use Rattle.lists.proofs.Index.{length-table, getD-table, set-table, table-same}
-use Rattle.rules.specs.Paper.{kindOf, fieldsOf}
-use Rattle.rules.specs.Log.{layouts, widths, spell-all, eventOf, high-psn}
+use Rattle.rules.specs.Paper.{kind-of, fields-of}
+use Rattle.rules.specs.Log.{layouts, widths, spell-all, event-of, high-psn}
 use Rattle.rules.specs.declared.Event.{Event}
 use Rattle.rules.specs.declared.Event.the-variants as event
 use Rattle.event_log.specs.Parts.{padded}
@@ -42,14 +42,14 @@ padded-more l i h =
     at j (no n) (no m) = rw (ne-eqb j i n) (past l i j (omega arith) ∙ sym (past l (suc i) j (omega arith)))
 
 -- an event takes no more fields than the code has room for
-pub event-padded : (k : ℕ) (l : List ℕ) → eventOf k (padded l) ≡ eventOf k l
-unfolding padded table eventOf
+pub event-padded : (k : ℕ) (l : List ℕ) → event-of k (padded l) ≡ event-of k l
+unfolding padded table event-of
 event-padded k l = refl
 
 -- a field that an event does not have is no PSN and has no bytes
-pub fields-padded : (e : Event) → let ws = widths (kindOf e) in let vs = fieldsOf e in
+pub fields-padded : (e : Event) → let ws = widths (kind-of e) in let vs = fields-of e in
     (high-psn (padded ws) (padded vs) ≡ high-psn ws vs) × (spell-all ws (padded vs) ≡ spell-all ws vs)
-unfolding padded table kindOf fieldsOf layouts widths high-psn spell-all
+unfolding padded table kind-of fields-of layouts widths high-psn spell-all
 fields-padded (event.Start a b c d) = (refl, refl)
 fields-padded event.Close = (refl, refl)
 fields-padded (event.Send z) = (refl, refl)

@@ -5,8 +5,8 @@ ghost use Prim.Native.Nat.{_+_, _≤_, _<_, _^_};
 ghost use lib.ListN.{length, take, drop};
 ghost use lib.Seq.{sets};
 ghost use Rattle.rules.specs.Numbers.{longest-log};
-ghost use Rattle.rules.specs.Paper.{kindOf, fieldsOf, read-line};
-ghost use Rattle.rules.specs.Log.{widths, whole as wholeOf, kind-ok, eventOf, number, number-all, spell, encode, high-psn, read as readOf, read-left, body as bodyOf};
+ghost use Rattle.rules.specs.Paper.{kind-of, fields-of, read-line};
+ghost use Rattle.rules.specs.Log.{widths, whole as whole-of, kind-ok, event-of, number, number-all, spell, encode, high-psn, read as read-of, read-left, body as body-of};
 ghost use Rattle.event_log.specs.Parts.{padded, FitsAll, Writes};
 use psn::Psn;
 use psn::TURN;
@@ -40,7 +40,7 @@ fn layout(kind: u8) -> [usize; FIELDS]
 
 // A record's whole length.
 fn whole(kind: u8) -> usize
-    ensures { λ r. ⌜ r ≡ wholeOf kind ⌝ }
+    ensures { λ r. ⌜ r ≡ whole-of kind ⌝ }
 {
     let w = layout(kind);
     4 + w[0] + w[1] + w[2] + w[3]
@@ -48,7 +48,7 @@ fn whole(kind: u8) -> usize
 
 // An event's kind.
 fn kind(event: Event) -> u8
-    ensures { λ r. ⌜ r ≡ kindOf event ⌝ }
+    ensures { λ r. ⌜ r ≡ kind-of event ⌝ }
 {
     match event {
         Event::Start {
@@ -69,7 +69,7 @@ fn kind(event: Event) -> u8
 
 // An event's fields in their order, 0 for one that its kind does not have.
 fn values(event: Event) -> [u64; FIELDS]
-    ensures { λ r. ⌜ r ≡ padded (fieldsOf event) ⌝ }
+    ensures { λ r. ⌜ r ≡ padded (fields-of event) ⌝ }
 {
     match event {
         Event::Start {
@@ -101,7 +101,7 @@ fn values(event: Event) -> [u64; FIELDS]
 // The event of a kind with these fields.
 fn event(kind: u8, v: [u64; FIELDS]) -> Event
     requires { ⌜ (kind-ok kind ≡ true) × FitsAll (widths kind) v ⌝ }
-    ensures { λ r. ⌜ r ≡ eventOf kind v ⌝ }
+    ensures { λ r. ⌜ r ≡ event-of kind v ⌝ }
 {
     match kind {
         1 => Event::Start {
@@ -158,7 +158,7 @@ fn field(r: &[u8], at: usize, width: usize) -> u64
 
 // The fields of the record of this kind that the bytes r begin with.
 fn fields(r: &[u8], kind: u8) -> [u64; FIELDS]
-    requires { ⌜ wholeOf kind ≤ length (now r) ⌝ }
+    requires { ⌜ whole-of kind ≤ length (now r) ⌝ }
     ensures { λ v. ⌜ (v ≡ padded (number-all (widths kind) (drop 4 (now (r .entry))))) × FitsAll (widths kind) v ⌝ }
 {
     let w = layout(kind);
@@ -208,7 +208,7 @@ fn read_first(r: &[u8], place: usize) -> Read
 
 // The record at a place of the log.
 pub fn read(log: &[u8], place: usize) -> Read
-    ensures { λ x. ⌜ read-line x ≡ read-line (readOf (now (log .entry)) place) ⌝ }
+    ensures { λ x. ⌜ read-line x ≡ read-line (read-of (now (log .entry)) place) ⌝ }
 {
     if LONGEST_LOG < log.len() {
         return Read::Nothing(13);
@@ -221,7 +221,7 @@ pub fn read(log: &[u8], place: usize) -> Read
 
 // The body of the record at a place of the log: that part of it from the slot byte on, empty where there is no record.
 pub fn body(log: &[u8], place: usize) -> &[u8]
-    ensures { λ x. ⌜ now x ≡ bodyOf (now (log .entry)) place (readOf (now (log .entry)) place) ⌝ }
+    ensures { λ x. ⌜ now x ≡ body-of (now (log .entry)) place (read-of (now (log .entry)) place) ⌝ }
 {
     match read(log, place) {
         Read::Record {
@@ -270,7 +270,7 @@ fn put(buffer: &mut [u8], at: usize, width: usize, v: u64)
 
 // An event's record at the start of a buffer that has room for it.
 fn fill(buffer: &mut [u8], slot: u8, event: Event)
-    requires { ⌜ wholeOf (kindOf event) ≤ length (now buffer) ⌝ }
+    requires { ⌜ whole-of (kind-of event) ≤ length (now buffer) ⌝ }
     ensures { λ r. ⌜ now (buffer .exit) ≡ sets (now (buffer .entry)) 0 (encode slot event) ⌝ }
 {
     let k = kind(event);

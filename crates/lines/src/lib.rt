@@ -1,7 +1,7 @@
 // Text that is put together in a buffer that the caller lends: each function puts bytes from an index on and answers the index after
 // them. What no longer fits is left out.
 ghost use mathlib.Core.List.{[], _∷_};
-ghost use Rattle.lines.specs.Text.{decimal as decimalOf, Puts};
+ghost use Rattle.lines.specs.Text.{decimal as decimal-of, Puts};
 
 // Puts a byte.
 pub fn push(out: &mut [u8], at: usize, b: u8) -> usize
@@ -29,7 +29,7 @@ pub fn push_bytes(out: &mut [u8], at: usize, text: &[u8]) -> usize
 
 // Puts a number in decimal.
 pub fn push_number(out: &mut [u8], at: usize, n: u64) -> usize
-    ensures { λ r. ⌜ Puts (now (out .entry)) at (decimalOf n) (now (out .exit)) r ⌝ }
+    ensures { λ r. ⌜ Puts (now (out .entry)) at (decimal-of n) (now (out .exit)) r ⌝ }
 {
     let mut text = [0u8; 20];
     let k = io::decimal(n, &mut text);
@@ -38,7 +38,7 @@ pub fn push_number(out: &mut [u8], at: usize, n: u64) -> usize
 
 // Puts a space and a number.
 pub fn push_next(out: &mut [u8], at: usize, n: u64) -> usize
-    ensures { λ r. ⌜ Puts (now (out .entry)) at (32 ∷ decimalOf n) (now (out .exit)) r ⌝ }
+    ensures { λ r. ⌜ Puts (now (out .entry)) at (32 ∷ decimal-of n) (now (out .exit)) r ⌝ }
 {
     let p = push(out, at, b' ');
     push_number(out, p, n)

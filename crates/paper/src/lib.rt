@@ -1,7 +1,7 @@
 // What an answer is on paper: its number, and the values that its line shows.
 ghost use mathlib.Core.Path.{_≡_};
 ghost use mathlib.Core.List.{[], _∷_};
-ghost use Rattle.rules.specs.Paper.{code as codeOf, digit as digitOf};
+ghost use Rattle.rules.specs.Paper.{code as code-of, digit as digit-of};
 ghost use Rattle.paper.specs.Shown.{filled, shown};
 use rules::Answer;
 use rules::Nack;
@@ -20,7 +20,7 @@ pub struct Shown {
 
 // The arrival answer.
 pub fn code(v: Verdict) -> u64
-    ensures { λ r. ⌜ r ≡ codeOf v ⌝ }
+    ensures { λ r. ⌜ r ≡ code-of v ⌝ }
 {
     match v {
         Verdict::Fresh => 0,
@@ -34,7 +34,7 @@ pub fn code(v: Verdict) -> u64
 
 // A flag as a value.
 fn digit(b: bool) -> u64
-    ensures { λ r. ⌜ r ≡ digitOf b ⌝ }
+    ensures { λ r. ⌜ r ≡ digit-of b ⌝ }
 {
     if b {
         return 1;

@@ -1,6 +1,6 @@
 // The replay of a log but for its text: one record after the other, from an empty table on.
 ghost use mathlib.Core.Path.{_≡_};
-ghost use Rattle.player.specs.Play.{begin as beginOf, Sound, Turned};
+ghost use Rattle.player.specs.Play.{begin as begin-of, Sound, Turned};
 use rules::Answer;
 use rules::Read;
 use table::Table;
@@ -24,7 +24,7 @@ pub struct Turn {
 impl State {
     // Every slot is empty, and nothing is read.
     pub fn begin() -> State
-        ensures { λ r. ⌜ r ≡ beginOf ⌝ }
+        ensures { λ r. ⌜ r ≡ begin-of ⌝ }
     {
         State {
             table: Table::empty(),

@@ -13,7 +13,7 @@ use Rattle.psn.proofs.Circle.{after-lt}
 use Rattle.lists.specs.Index.{First, table}
 use Rattle.lists.proofs.Index.{set-table, table-same}
 use Rattle.row.proofs.Rows.{run-from, run-stops}
-use Rattle.row.specs.Row.{at, bits, Becomes, withBit, isClear}
+use Rattle.row.specs.Row.{at, bits, Becomes, with-bit, is-clear}
 use Rattle.rules.specs.Numbers.{turn, after, distance}
 use Rattle.lists.specs.Lists.{lead, slide}
 use Rattle.rules.specs.Receiver.{accept}
@@ -29,7 +29,7 @@ moved e s t h l = omega arith
 
 -- the packet at distance d is set in us
 module _ (x : Held) (h : Started x) (d : ℕ) (l : d < x .head .room)
-    (us : List ℕ) (put : Becomes (x .words) us (withBit (x .words) (offset x + d))) where
+    (us : List ℕ) (put : Becomes (x .words) us (with-bit (x .words) (offset x + d))) where
   us-before : (p : ℕ) → p < offset x → at us p ≡ true
   us-before p k = put .bits-are p ∙ ap (λ (b : Bool). b || (eqb p (offset x + d) && ltb p (bits (x .words)))) (h .before p k)
 
@@ -41,14 +41,14 @@ module _ (x : Held) (h : Started x) (d : ℕ) (l : d < x .head .room)
   us-entry : (o : ℕ) → o < x .head .room → at us (offset x + o) ≡ cond (eqb o d) true (accepted x o)
   us-entry o k = put .bits-are (offset x + o) ∙ pick (ℕ-discrete o d)
     where
-      pick : Dec (o ≡ d) → withBit (x .words) (offset x + d) (offset x + o) ≡ cond (eqb o d) true (accepted x o)
+      pick : Dec (o ≡ d) → with-bit (x .words) (offset x + d) (offset x + o) ≡ cond (eqb o d) true (accepted x o)
       pick (yes e) =
           rw (eq-eqb o d e, eq-eqb (offset x + o) (offset x + d) (omega arith), lt-ltb (offset x + o) (bits (x .words)) (omega (arith, h .enough)))
           (or-true (accepted x o))
       pick (no n) = rw (ne-eqb o d n, ne-eqb (offset x + o) (offset x + d) (λ e. n (omega arith))) (or-false (accepted x o))
 
   -- t is the lowest clear bit
-  module _ (t : ℕ) (run : First (isClear us) (offset x + x .head .room) t) where
+  module _ (t : ℕ) (run : First (is-clear us) (offset x + x .head .room) t) where
     pub past-offset : offset x ≤ t
     past-offset = run-from us (offset x) (offset x + x .head .room) t run (omega arith) us-before
 
@@ -88,7 +88,7 @@ module _ (x : Held) (h : Started x) (d : ℕ) (l : d < x .head .room)
           let w-is : w ≡ table room f =
           ap (λ (i : ℕ). set (table room (accepted x)) i true) (sym d-is) ∙ set-table room (accepted x) d true
           ∙ table-same room _ f (λ o k. sym (us-entry o k)) in
-          let lead-is : lead w ≡ m = ap lead w-is ∙ lead-table room f m (first-from (isClear us) (offset x) room t run past-offset) in
+          let lead-is : lead w ≡ m = ap lead w-is ∙ lead-table room f m (first-from (is-clear us) (offset x) room t run past-offset) in
           let window-is : table room (accepted y) ≡ slide (lead w) w =
           table-same room (accepted y) (λ i. f (m + i)) (λ i k. vs-at i ∙ ap (at us) (omega (arith, past-offset)))
           ∙ sym (slide-table room f m (omega (arith, run .within)) (λ i k. us-past (offset x + i) (omega arith)))

@@ -5,7 +5,7 @@ use Prim.Native.Nat.{ℕ}
 use Rattle.psn.specs.declared.Psn.{Psn}
 use Rattle.rules.specs.Numbers.{psn-ok, room-ok, size-ok, flags-ok, trimmed, trimmed-last-hop, no-buffer}
 use Rattle.rules.specs.Outcome.{Refused, Done, refuse, started}
-use Rattle.rules.specs.Receiver.{Receiver, unused, fresh, start, judge, known, beyond, verdict, nackOf, judged, arrive}
+use Rattle.rules.specs.Receiver.{Receiver, unused, fresh, start, judge, known, beyond, verdict, nack-of, judged, arrive}
 use Rattle.rules.specs.declared.Arrival.{Arrival}
 use Rattle.rules.specs.declared.Verdict.{Verdict}
 use Rattle.rules.specs.declared.Verdict.the-variants.{Fresh, Known, Beyond, NoBuffer, Trim, TrimLastHop}
@@ -94,7 +94,7 @@ module _ (r : Receiver) (a : Arrival) where
         arrive-judged f v e = simp (u, p, z, f) (ap (judged r a) (sym e))
 
   -- what is neither fresh nor known brings a NACK
-  pub judged-nack : (v : Verdict) → (v ≡ Fresh → ⊥) → (v ≡ Known → ⊥) → judged r a v ≡ Done r (answer.Nacked v (nackOf v a))
+  pub judged-nack : (v : Verdict) → (v ≡ Fresh → ⊥) → (v ≡ Known → ⊥) → judged r a v ≡ Done r (answer.Nacked v (nack-of v a))
   unfolding judged
   judged-nack Fresh f k = absurd (f refl)
   judged-nack Known f k = absurd (k refl)

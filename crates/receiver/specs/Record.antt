@@ -8,11 +8,11 @@ use Rattle.receiver.specs.declared.Receiver.{Receiver}
 use Rattle.receiver.specs.Held.{Held, Started}
 use Rattle.receiver.specs.Held as held
 
-abbrev pub heldOf : Receiver → Held
-heldOf x = record { head = record { room = x .room; expected = x .expected; count = x .count }; words = x .words }
+abbrev pub held-of : Receiver → Held
+held-of x = record { head = record { room = x .room; expected = x .expected; count = x .count }; words = x .words }
 
 abbrev pub meaning : Receiver → rule.Receiver
-meaning x = held.meaning (heldOf x)
+meaning x = held.meaning (held-of x)
 
 -- the record of no connection: all zero
 abbrev pub empty : Receiver
@@ -20,4 +20,4 @@ empty = record { room = 0; expected = psn 0; words = replicate words 0; count = 
 
 -- "A record is empty (all zero) or comes from a start and the events after it"
 abbrev pub Sound : Receiver → Type 0
-Sound x = (x ≡ empty) ⊎ Started (heldOf x)
+Sound x = (x ≡ empty) ⊎ Started (held-of x)

@@ -1,11 +1,11 @@
 // The receiving side. Its words hold the packet numbers from E's own block of 64 on: bit b of word j is number 64 j + b of that block and
 // those after it. All before E are accepted, so their bits are set; no bit past the window is.
 ghost use mathlib.Core.Path.{_≡_};
-ghost use Rattle.rules.specs.Receiver.{accept as acceptOf, arrive as arriveOf, nackOf, reasonOf, sackOf, start as startOf, verdict};
+ghost use Rattle.rules.specs.Receiver.{accept as accept-of, arrive as arrive-of, nack-of, reason-of, sack-of, start as start-of, verdict};
 ghost use Rattle.rules.specs.Promise.{Meets};
 ghost use Rattle.rules.specs.declared.Verdict.the-variants.{Fresh};
 ghost use Rattle.receiver.specs.Held.{held, meaning, Started};
-ghost use Rattle.receiver.specs.Record.{empty as emptyOf, meaning as meaningOf, Sound};
+ghost use Rattle.receiver.specs.Record.{empty as empty-of, meaning as meaning-of, Sound};
 use psn::HALF;
 use psn::Psn;
 use psn::TURN;
@@ -32,7 +32,7 @@ pub struct Taken {
 
 // A NACK's reason, as a sender takes it: 0 where a SACK is sent.
 fn reason(v: Verdict) -> u8
-    ensures { λ r. ⌜ r ≡ reasonOf v ⌝ }
+    ensures { λ r. ⌜ r ≡ reason-of v ⌝ }
 {
     match v {
         Verdict::Fresh => 0,
@@ -45,7 +45,7 @@ fn reason(v: Verdict) -> u8
 }
 
 fn nack(v: Verdict, a: Arrival) -> Nack
-    ensures { λ r. ⌜ r ≡ nackOf v a ⌝ }
+    ensures { λ r. ⌜ r ≡ nack-of v a ⌝ }
 {
     let psn = a.psn;
     Nack {
@@ -91,7 +91,7 @@ impl Head {
     // A fresh packet is accepted, and E moves to the first that is not.
     fn accept(self, words: &mut [u64], a: Arrival) -> Head
         requires { ⌜ Started (held self (now words)) × (verdict (meaning (held self (now words))) a ≡ Fresh) ⌝ }
-        ensures { λ r. ⌜ Started (held r (now (words .exit))) × (meaning (held r (now (words .exit))) ≡ acceptOf (meaning (held self (now (words .entry)))) a) ⌝ }
+        ensures { λ r. ⌜ Started (held r (now (words .exit))) × (meaning (held r (now (words .exit))) ≡ accept-of (meaning (held self (now (words .entry)))) a) ⌝ }
     {
         let room = self.room;
         let expected = self.expected;
@@ -110,7 +110,7 @@ impl Head {
     // The reply to a packet that is fresh or known, from the record after it.
     fn sack(self, words: &[u64], a: Arrival) -> Sack
         requires { ⌜ Started (held self (now words)) ⌝ }
-        ensures { λ r. ⌜ r ≡ sackOf (meaning (held self (now (words .entry)))) a ⌝ }
+        ensures { λ r. ⌜ r ≡ sack-of (meaning (held self (now (words .entry)))) a ⌝ }
     {
         let room = self.room;
         let expected = self.expected;
@@ -148,7 +148,7 @@ impl Head {
     // An arrival at a receiver that was started, over lent words.
     pub fn arrive(self, words: &mut [u64], a: Arrival) -> Taken
         requires { ⌜ Started (held self (now words)) ⌝ }
-        ensures { λ r. ⌜ Meets Started meaning (held self (now (words .entry))) (arriveOf (meaning (held self (now (words .entry)))) a) (r .answer) (held (r .head) (now (words .exit))) ⌝ }
+        ensures { λ r. ⌜ Meets Started meaning (held self (now (words .entry))) (arrive-of (meaning (held self (now (words .entry)))) a) (r .answer) (held (r .head) (now (words .exit))) ⌝ }
     {
         let psn = a.psn;
         if !allowed::psn_ok(psn) {
@@ -198,7 +198,7 @@ pub struct Arrived {
 impl Receiver {
     // The record of no connection: all zero.
     pub fn empty() -> Receiver
-        ensures { λ r. ⌜ r ≡ emptyOf ⌝ }
+        ensures { λ r. ⌜ r ≡ empty-of ⌝ }
     {
         Receiver {
             room: 0,
@@ -210,7 +210,7 @@ impl Receiver {
 
     // A start. Refused, it hands back the empty record.
     pub fn start(room: u32, first: Psn) -> Arrived
-        ensures { λ r. ⌜ Meets Sound meaningOf emptyOf (startOf room first) (r .answer) (r .record) ⌝ }
+        ensures { λ r. ⌜ Meets Sound meaning-of empty-of (start-of room first) (r .answer) (r .record) ⌝ }
     {
         if !allowed::room_ok(room) {
             return Receiver::empty().refused(4);
@@ -244,7 +244,7 @@ impl Receiver {
     // An arrival.
     pub fn arrive(self, a: Arrival) -> Arrived
         requires { ⌜ Sound self ⌝ }
-        ensures { λ r. ⌜ Meets Sound meaningOf self (arriveOf (meaningOf self) a) (r .answer) (r .record) ⌝ }
+        ensures { λ r. ⌜ Meets Sound meaning-of self (arrive-of (meaning-of self) a) (r .answer) (r .record) ⌝ }
     {
         let room = self.room;
         if room == 0 {

@@ -7,12 +7,12 @@ use native.Mathlib.Numerals.{add-one}
 use native.Mathlib.Decide.{decLt}
 use lib.Pow.{pow-pos, shr-le, shr-shr}
 use Rattle.lists.specs.Index.{total, weigh, First}
-use Rattle.word.specs.Word.{bitAt}
+use Rattle.word.specs.Word.{bit-at}
 use Rattle.lists.proofs.Index.{total-add, total-none}
 use Rattle.word.proofs.Bits.{bit-none, bit-past, bit-shr, same-bits}
 
 -- a word that is not 0 has a set bit
-pub some-bit : (w t : ℕ) → w < 2 ^ 64 → (w ≡ 0 → ⊥) → First (bitAt w) 64 t → t < 64
+pub some-bit : (w t : ℕ) → w < 2 ^ 64 → (w ≡ 0 → ⊥) → First (bit-at w) 64 t → t < 64
 some-bit w t small n f = go (decLt t 64)
   where
     go : Dec (t < 64) → t < 64
@@ -21,19 +21,19 @@ some-bit w t small n f = go (decLt t 64)
 
 module _ (word b : ℕ) (small : word < 2 ^ 64) (g : ℕ → ℕ) where
   -- nothing is left above
-  pub walk-ends : word / 2 ^ b ≡ 0 → b ≤ 64 → weigh 64 (bitAt word) g ≡ weigh b (bitAt word) g
+  pub walk-ends : word / 2 ^ b ≡ 0 → b ≤ 64 → weigh 64 (bit-at word) g ≡ weigh b (bit-at word) g
   walk-ends e h =
       let r = 64 - b in
       let k : 64 ≡ b + r = omega arith in
-      let clear : (i : ℕ) → bitAt word (b + i) ≡ false = λ i. sym (bit-shr word b i) ∙ ap (λ (w : ℕ). bitAt w i) e ∙ bit-none i in
-      let above = total-none r (λ i. cond (bitAt word (b + i)) (g (b + i)) 0) (λ i l. ap (λ (t : Bool). cond t (g (b + i)) 0) (clear i)) in
-      ap (λ (n : ℕ). weigh n (bitAt word) g) k ∙ total-add b r (λ i. cond (bitAt word i) (g i) 0) ∙ omega (arith, above)
+      let clear : (i : ℕ) → bit-at word (b + i) ≡ false = λ i. sym (bit-shr word b i) ∙ ap (λ (w : ℕ). bit-at w i) e ∙ bit-none i in
+      let above = total-none r (λ i. cond (bit-at word (b + i)) (g (b + i)) 0) (λ i l. ap (λ (t : Bool). cond t (g (b + i)) 0) (clear i)) in
+      ap (λ (n : ℕ). weigh n (bit-at word) g) k ∙ total-add b r (λ i. cond (bit-at word i) (g i) 0) ∙ omega (arith, above)
 
-  module _ (left t : ℕ) (is : left ≡ word / 2 ^ b) (n : left ≡ 0 → ⊥) (f : First (bitAt left) 64 t) where
-    bit-is : (i : ℕ) → bitAt left i ≡ bitAt word (b + i)
-    bit-is i = ap (λ (w : ℕ). bitAt w i) is ∙ bit-shr word b i
+  module _ (left t : ℕ) (is : left ≡ word / 2 ^ b) (n : left ≡ 0 → ⊥) (f : First (bit-at left) 64 t) where
+    bit-is : (i : ℕ) → bit-at left i ≡ bit-at word (b + i)
+    bit-is i = ap (λ (w : ℕ). bit-at w i) is ∙ bit-shr word b i
 
-    here : bitAt word (b + t) ≡ true
+    here : bit-at word (b + t) ≡ true
     here = sym (bit-is t) ∙ f .here (some-bit left t (omega (arith, is, shr-le word b)) n f)
 
     pub walk-within : b + t < 64
@@ -44,13 +44,13 @@ module _ (word b : ℕ) (small : word < 2 ^ 64) (g : ℕ → ℕ) where
         go (no h) = absurd (false≢true (sym (bit-past 64 word (b + t) small (omega arith)) ∙ here))
 
     -- the next set bit weighs in
-    pub walk-goes : weigh (b + (t + 1)) (bitAt word) g ≡ weigh b (bitAt word) g + g (b + t)
+    pub walk-goes : weigh (b + (t + 1)) (bit-at word) g ≡ weigh b (bit-at word) g + g (b + t)
     unfolding total
     walk-goes =
-        let u : ℕ → ℕ = λ i. cond (bitAt word (b + i)) (g (b + i)) 0 in
+        let u : ℕ → ℕ = λ i. cond (bit-at word (b + i)) (g (b + i)) 0 in
         let below : total t u ≡ 0 = total-none t u (λ i l. ap (λ (v : Bool). cond v (g (b + i)) 0) (sym (bit-is i) ∙ f .none i l)) in
-        total-add b (t + 1) (λ i. cond (bitAt word i) (g i) 0)
-        ∙ ap (λ (x : ℕ). weigh b (bitAt word) g + x)
+        total-add b (t + 1) (λ i. cond (bit-at word i) (g i) 0)
+        ∙ ap (λ (x : ℕ). weigh b (bit-at word) g + x)
         (ap (λ (m : ℕ). total m u) (add-one t) ∙ ap₂ (λ (x y : ℕ). x + y) below (ap (λ (v : Bool). cond v (g (b + t)) 0) here) ∙ omega arith)
 
     pub walk-left : left / 2 ^ t / 2 ≡ word / 2 ^ (b + (t + 1))

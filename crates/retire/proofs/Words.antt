@@ -10,11 +10,11 @@ use lib.ListN.{length, getD, set, length-set}
 use borrow.Author.Tests.{lt-ltb, le-ltb}
 use Rattle.psn.specs.Psn.{after}
 use Rattle.lists.specs.Index.{total, weigh, tally}
-use Rattle.word.specs.Word.{bitAt, Bits, onlyIn}
+use Rattle.word.specs.Word.{bit-at, Bits, only-in}
 use Rattle.lists.proofs.Index.{total-le}
 use Rattle.row.specs.Row.{at, bits, Becomes}
 use Rattle.row.proofs.Rows.{at-word, at-past, row-set, weigh-word, tally-word}
-use Rattle.retire.specs.Rows.{fresh, sizeAt, OneRetired, Retires}
+use Rattle.retire.specs.Rows.{fresh, size-at, OneRetired, Retires}
 use Rattle.retire.specs.declared.Retired.{Retired}
 use Rattle.word.proofs.Compare.{leb-same}
 use Rattle.retire.proofs.Naming.{size-on}
@@ -42,9 +42,9 @@ module _ (op : Bool → Bool → Bool) (idle : (b : Bool) → op b false ≡ b) 
   joined-none = record { long = refl; bits-are = λ p. sym (joined-past 0 p (omega arith)) }
 
   module _ (j : ℕ) (W′ : List ℕ) (u : Becomes W W′ (joined j)) (v named : ℕ) (l : j < length W)
-      (new : Bits v (λ i. op (bitAt (getD W′ j 0) i) (bitAt named i))) (is : Bits named (λ b. f (64 * j + b))) where
+      (new : Bits v (λ i. op (bit-at (getD W′ j 0) i) (bit-at named i))) (is : Bits named (λ b. f (64 * j + b))) where
     -- the word as it stood
-    pub still : (b : ℕ) → b < 64 → bitAt (getD W′ j 0) b ≡ at W (64 * j + b)
+    pub still : (b : ℕ) → b < 64 → bit-at (getD W′ j 0) b ≡ at W (64 * j + b)
     still b h = sym (at-word W′ j b h) ∙ u .bits-are (64 * j + b) ∙ joined-past j (64 * j + b) (omega arith)
 
     pub joined-more : Becomes W (set W′ j v) (joined (j + 1))
@@ -67,7 +67,7 @@ pub record Upto (R M sizes : List ℕ) (first : ℕ) (f : ℕ → Bool) (j : ℕ
   pub retired-are : Becomes R R′ (λ p. at R p || f p && ltb p (64 * j))
   pub marked-are : Becomes M M′ (λ p. at M p && not (f p && ltb p (64 * j)))
   pub counted : newly ≡ tally (64 * j) (fresh R f)
-  pub weighed : sum ≡ weigh (64 * j) (fresh R f) (sizeAt sizes first)
+  pub weighed : sum ≡ weigh (64 * j) (fresh R f) (size-at sizes first)
 
 module _ (R M sizes : List ℕ) (first : ℕ) (f : ℕ → Bool) where
   pub upto-none : Upto R M sizes first f 0 R M 0 0
@@ -84,24 +84,24 @@ module _ (R M sizes : List ℕ) (first : ℕ) (f : ℕ → Bool) where
     -- one word more: the SACK names `named` in it, which is retired as `out` says and weighs `more`
     pub upto-more : (j : ℕ) (R′ M′ : List ℕ) (newly sum : ℕ) → Upto R M sizes first f j R′ M′ newly sum → j < length R
         → (named start more : ℕ) (out : Retired) → Bits named (λ b. f (64 * j + b)) → OneRetired (getD R′ j 0) (getD M′ j 0) named out
-        → start ≡ after first (64 * j) → more ≡ weigh 64 (bitAt (out .fresh)) (sizeAt sizes start)
+        → start ≡ after first (64 * j) → more ≡ weigh 64 (bit-at (out .fresh)) (size-at sizes start)
         → Upto R M sizes first f (j + 1) (set R′ j (out .retired)) (set M′ j (out .marked)) (newly + out .newly) (sum + more)
     upto-more j R′ M′ newly sum u l named start more out is h start-is more-is = record {
       within = omega arith;
       retired-are = joined-more (λ a b. a || b) or-false f R j R′ (u .retired-are) (out .retired) named l (h .retired-are) is;
       marked-are = joined-more (λ a b. a && not b) and-true f M j M′ (u .marked-are) (out .marked) named (omega arith) (h .marked-are) is;
-      counted = ap₂ (λ (x y : ℕ). x + y) (u .counted) (h .counted) ∙ sym (tally-word (fresh R f) (onlyIn named (getD R′ j 0)) j new);
+      counted = ap₂ (λ (x y : ℕ). x + y) (u .counted) (h .counted) ∙ sym (tally-word (fresh R f) (only-in named (getD R′ j 0)) j new);
       weighed = ap₂ (λ (x y : ℕ). x + y) (u .weighed) more-is
-          ∙ sym (weigh-word (fresh R f) (bitAt (out .fresh)) (sizeAt sizes first) (sizeAt sizes start) j (λ b p. new b p ∙ sym (h .fresh-are b p)) weight);
+          ∙ sym (weigh-word (fresh R f) (bit-at (out .fresh)) (size-at sizes first) (size-at sizes start) j (λ b p. new b p ∙ sym (h .fresh-are b p)) weight);
     }
       where
-        new : (b : ℕ) → b < 64 → fresh R f (64 * j + b) ≡ onlyIn named (getD R′ j 0) b
+        new : (b : ℕ) → b < 64 → fresh R f (64 * j + b) ≡ only-in named (getD R′ j 0) b
         new b p =
             let stood = still (λ x y. x || y) or-false f R j R′ (u .retired-are) (out .retired) named l (h .retired-are) is b p in
             sym (ap₂ (λ (x y : Bool). x && not y) (is b p) stood)
 
-        weight : (b : ℕ) → b < 64 → sizeAt sizes first (64 * j + b) ≡ sizeAt sizes start b
-        weight b p = sym (ap (λ (s : ℕ). sizeAt sizes s b) start-is ∙ ap (λ (k : ℕ). getD sizes k 0) (size-on first (64 * j) b))
+        weight : (b : ℕ) → b < 64 → size-at sizes first (64 * j + b) ≡ size-at sizes start b
+        weight b p = sym (ap (λ (s : ℕ). size-at sizes s b) start-is ∙ ap (λ (k : ℕ). getD sizes k 0) (size-on first (64 * j) b))
 
     -- all words are retired; past the end nothing is marked
     pub all-retired : (j : ℕ) (R′ M′ : List ℕ) (newly sum : ℕ) → Upto R M sizes first f j R′ M′ newly sum → length R ≤ j

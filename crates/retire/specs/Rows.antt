@@ -7,7 +7,7 @@ use lib.Dec.{leb, ltb}
 use lib.ListN.{getD}
 use Rattle.psn.specs.Psn.{half, after}
 use Rattle.lists.specs.Index.{tally, weigh}
-use Rattle.word.specs.Word.{bitAt, Bits, onlyIn}
+use Rattle.word.specs.Word.{bit-at, Bits, only-in}
 use Rattle.row.specs.Row.{at, bits, Becomes}
 use Rattle.rules.specs.Numbers.{largest-room}
 use Rattle.rules.specs.Retire.{has-bit}
@@ -20,16 +20,16 @@ abbrev pub ahead : ℕ → ℕ → Bool
 ahead n i = leb n i && not (leb half i)
 
 -- bit d of a block of 64, and none past it
-abbrev pub bitOfBlock : ℕ → ℕ → Bool
-bitOfBlock bitmap d = ltb d 64 && bitAt bitmap d
+abbrev pub bit-of-block : ℕ → ℕ → Bool
+bit-of-block bitmap d = ltb d 64 && bit-at bitmap d
 
 -- is bit p named: below upto, or by a set bit of the block
 unfoldable pub names : ℕ → ℕ → Block → ℕ → Bool
 names first upto b p = ltb p upto || has-bit b (after first p)
 
 -- the size of the packet number of bit p: sizes stand by PSN modulo the largest room
-abbrev pub sizeAt : List ℕ → ℕ → ℕ → ℕ
-sizeAt sizes first p = getD sizes ((first + p) % largest-room) 0
+abbrev pub size-at : List ℕ → ℕ → ℕ → ℕ
+size-at sizes first p = getD sizes ((first + p) % largest-room) 0
 
 -- so many words that the sizes of all their bits, of 16 bits each, add up in 32 bits
 abbrev pub longest-weighed : ℕ
@@ -37,10 +37,10 @@ longest-weighed = 512
 
 -- one word: what is named is retired and unmarked, and what was not retired before is fresh
 pub record OneRetired (retired marked named : ℕ) (r : Retired) : Type 0 where
-  pub retired-are : Bits (r .retired) (λ i. bitAt retired i || bitAt named i)
-  pub marked-are : Bits (r .marked) (onlyIn marked named)
-  pub fresh-are : Bits (r .fresh) (onlyIn named retired)
-  pub counted : r .newly ≡ tally 64 (onlyIn named retired)
+  pub retired-are : Bits (r .retired) (λ i. bit-at retired i || bit-at named i)
+  pub marked-are : Bits (r .marked) (only-in marked named)
+  pub fresh-are : Bits (r .fresh) (only-in named retired)
+  pub counted : r .newly ≡ tally 64 (only-in named retired)
 
 -- named and not retired before
 abbrev pub fresh : List ℕ → (ℕ → Bool) → ℕ → Bool
@@ -51,4 +51,4 @@ pub record Retires (retired marked sizes : List ℕ) (first : ℕ) (f : ℕ → 
   pub retired-are : Becomes retired retired′ (λ p. at retired p || f p && ltb p (bits retired))
   pub marked-are : Becomes marked marked′ (λ p. at marked p && not (f p))
   pub counted : r .newly ≡ tally (bits retired) (fresh retired f)
-  pub weighed : r .bytes ≡ weigh (bits retired) (fresh retired f) (sizeAt sizes first)
+  pub weighed : r .bytes ≡ weigh (bits retired) (fresh retired f) (size-at sizes first)

@@ -4,10 +4,10 @@ ghost use Prim.Native.Nat.{_+_, _*_, _%_, _≤_, _<_};
 ghost use lib.ListN.{length};
 ghost use Rattle.psn.specs.Psn.{turn};
 ghost use Rattle.lists.specs.Index.{weigh};
-ghost use Rattle.word.specs.Word.{bitAt, Bits};
+ghost use Rattle.word.specs.Word.{bit-at, Bits};
 ghost use Rattle.row.specs.Row.{longest};
 ghost use Rattle.rules.specs.Numbers.{largest-room};
-ghost use Rattle.retire.specs.Rows.{ahead, bitOfBlock, names, sizeAt, OneRetired, Retires, longest-weighed};
+ghost use Rattle.retire.specs.Rows.{ahead, bit-of-block, names, size-at, OneRetired, Retires, longest-weighed};
 use psn::HALF;
 use psn::Psn;
 use psn::TURN;
@@ -35,7 +35,7 @@ pub fn unsent_bits(o: u32, n: u32) -> u64
 // A block's bits as they stand in the word that begins q after the block's base.
 fn placed(bitmap: u64, q: u32) -> u64
     requires { ⌜ q < turn ⌝ }
-    ensures { λ r. ⌜ Bits r (λ i. bitOfBlock bitmap ((q + i) % turn)) ⌝ }
+    ensures { λ r. ⌜ Bits r (λ i. bit-of-block bitmap ((q + i) % turn)) ⌝ }
 {
     if q < 64 {
         return bitmap >> q;
@@ -60,7 +60,7 @@ fn named(j: u32, first: Psn, upto: u32, block: Block) -> u64
 // The sizes of a word's set bits added up; first is the packet number of its lowest bit.
 fn bytes(sizes: &[u16], first: Psn, word: u64) -> u32
     requires { ⌜ length (now sizes) ≡ largest-room ⌝ }
-    ensures { λ r. ⌜ r ≡ weigh 64 (bitAt word) (sizeAt (now (sizes .entry)) (first .0)) ⌝ }
+    ensures { λ r. ⌜ r ≡ weigh 64 (bit-at word) (size-at (now (sizes .entry)) (first .0)) ⌝ }
 {
     let start = first.0 % LARGEST_ROOM;
     let mut left = word;

@@ -5,11 +5,11 @@ use mathlib.Core.List.{List}
 use Prim.Native.Nat.{ℕ, _*_, _/_, _%_}
 use lib.Dec.{eqb, ltb}
 use lib.ListN.{length, getD}
-use Rattle.word.specs.Word.{bitAt}
+use Rattle.word.specs.Word.{bit-at}
 
 -- bit p of the row; past its end none is set
 unfoldable pub at : List ℕ → ℕ → Bool
-at ws p = bitAt (getD ws (p / 64) 0) (p % 64)
+at ws p = bit-at (getD ws (p / 64) 0) (p % 64)
 
 -- how many bits it has
 abbrev pub bits : List ℕ → ℕ
@@ -25,15 +25,15 @@ pub record Becomes (before after : List ℕ) (f : ℕ → Bool) : Type 0 where
   pub bits-are : Row after f
 
 -- with bit p set, if the row has one
-abbrev pub withBit : List ℕ → ℕ → ℕ → Bool
-withBit ws p k = at ws k || (eqb k p && ltb k (bits ws))
+abbrev pub with-bit : List ℕ → ℕ → ℕ → Bool
+with-bit ws p k = at ws k || (eqb k p && ltb k (bits ws))
 
 -- with bit p clear
-abbrev pub withoutBit : List ℕ → ℕ → ℕ → Bool
-withoutBit ws p k = at ws k && not (eqb k p)
+abbrev pub without-bit : List ℕ → ℕ → ℕ → Bool
+without-bit ws p k = at ws k && not (eqb k p)
 
-abbrev pub isClear : List ℕ → ℕ → Bool
-isClear ws p = not (at ws p)
+abbrev pub is-clear : List ℕ → ℕ → Bool
+is-clear ws p = not (at ws p)
 
 -- so many words that the position of each bit fits 32 bits
 abbrev pub longest : ℕ

@@ -3,8 +3,8 @@ ghost use mathlib.Core.Path.{_≡_};
 ghost use Prim.Native.Nat.{_+_, _-_, _*_};
 ghost use lib.ListN.{getD};
 ghost use Rattle.lists.specs.Index.{First};
-ghost use Rattle.word.specs.Word.{Bits, inRange};
-ghost use Rattle.row.specs.Row.{at as bitOf, Becomes, withBit, withoutBit, isClear};
+ghost use Rattle.word.specs.Word.{Bits, in-range};
+ghost use Rattle.row.specs.Row.{at as bit-of, Becomes, with-bit, without-bit, is-clear};
 
 // Word j, 0 past the end.
 pub fn word_at(ws: &[u64], j: usize) -> u64
@@ -18,7 +18,7 @@ pub fn word_at(ws: &[u64], j: usize) -> u64
 
 // Whether bit p is set.
 pub fn test(ws: &[u64], p: u32) -> bool
-    ensures { λ r. ⌜ r ≡ bitOf (now (ws .entry)) p ⌝ }
+    ensures { λ r. ⌜ r ≡ bit-of (now (ws .entry)) p ⌝ }
 {
     let j = (p / 64) as usize;
     word::test(word_at(ws, j), p)
@@ -26,7 +26,7 @@ pub fn test(ws: &[u64], p: u32) -> bool
 
 // Bit p is set.
 pub fn set(ws: &mut [u64], p: u32)
-    ensures { λ r. ⌜ Becomes (now (ws .entry)) (now (ws .exit)) (withBit (now (ws .entry)) p) ⌝ }
+    ensures { λ r. ⌜ Becomes (now (ws .entry)) (now (ws .exit)) (with-bit (now (ws .entry)) p) ⌝ }
 {
     let j = (p / 64) as usize;
     if j < ws.len() {
@@ -36,7 +36,7 @@ pub fn set(ws: &mut [u64], p: u32)
 
 // Bit p is cleared.
 pub fn clear(ws: &mut [u64], p: u32)
-    ensures { λ r. ⌜ Becomes (now (ws .entry)) (now (ws .exit)) (withoutBit (now (ws .entry)) p) ⌝ }
+    ensures { λ r. ⌜ Becomes (now (ws .entry)) (now (ws .exit)) (without-bit (now (ws .entry)) p) ⌝ }
 {
     let j = (p / 64) as usize;
     if j < ws.len() {
@@ -46,7 +46,7 @@ pub fn clear(ws: &mut [u64], p: u32)
 
 // Word j of the row whose bits from a up to, and not with, b are set, and no others.
 pub fn range(j: u32, a: u32, b: u32) -> u64
-    ensures { λ r. ⌜ Bits r (λ i. inRange a b (64 * j + i)) ⌝ }
+    ensures { λ r. ⌜ Bits r (λ i. in-range a b (64 * j + i)) ⌝ }
 {
     word::range(from_word(j, a), from_word(j, b))
 }
@@ -63,7 +63,7 @@ fn from_word(j: u32, a: u32) -> u32
 
 // The 64 bits from bit p on.
 pub fn block(ws: &[u64], p: u32) -> u64
-    ensures { λ r. ⌜ Bits r (λ i. bitOf (now (ws .entry)) (p + i)) ⌝ }
+    ensures { λ r. ⌜ Bits r (λ i. bit-of (now (ws .entry)) (p + i)) ⌝ }
 {
     let j = (p / 64) as usize;
     word::across(word_at(ws, j), word_at(ws, j + 1), p)
@@ -71,7 +71,7 @@ pub fn block(ws: &[u64], p: u32) -> u64
 
 // How many set bits stand below the lowest clear one, n at the most.
 pub fn run(ws: &[u64], n: u32) -> u32
-    ensures { λ r. ⌜ First (isClear (now (ws .entry))) n r ⌝ }
+    ensures { λ r. ⌜ First (is-clear (now (ws .entry))) n r ⌝ }
 {
     let mut p: u32 = 0;
     while p < n {
@@ -85,7 +85,7 @@ pub fn run(ws: &[u64], n: u32) -> u32
 
 // The q lowest words go, and the others move down.
 pub fn shed(ws: &mut [u64], q: usize)
-    ensures { λ r. ⌜ Becomes (now (ws .entry)) (now (ws .exit)) (λ p. bitOf (now (ws .entry)) (64 * q + p)) ⌝ }
+    ensures { λ r. ⌜ Becomes (now (ws .entry)) (now (ws .exit)) (λ p. bit-of (now (ws .entry)) (64 * q + p)) ⌝ }
 {
     let n = ws.len();
     let mut i: usize = 0;

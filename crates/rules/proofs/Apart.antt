@@ -7,7 +7,7 @@ use lib.Dec.{eqb}
 use lib.ListN.{length, getD, drop}
 use Rattle.rules.specs.Numbers.{psn}
 use Rattle.rules.specs.Paper.{Line, digit, code, paper, read-line, written-line}
-use Rattle.rules.specs.Log.{eventOf}
+use Rattle.rules.specs.Log.{event-of}
 use Rattle.rules.specs.declared.Verdict.{Verdict}
 use Rattle.rules.specs.declared.Verdict.the-variants.{Fresh, Known, Beyond, NoBuffer, Trim, TrimLastHop}
 use Rattle.rules.specs.declared.Answer.{Answer}
@@ -27,11 +27,11 @@ digit-back : (b : Bool) → eqb (digit b) 1 ≡ b
 digit-back true = refl
 digit-back false = refl
 
-verdictOf : ℕ → Verdict
-verdictOf n = getD (Fresh ∷ Known ∷ Beyond ∷ NoBuffer ∷ Trim ∷ TrimLastHop ∷ []) n Fresh
+verdict-of : ℕ → Verdict
+verdict-of n = getD (Fresh ∷ Known ∷ Beyond ∷ NoBuffer ∷ Trim ∷ TrimLastHop ∷ []) n Fresh
 
-verdict-back : (v : Verdict) → verdictOf (code v) ≡ v
-unfolding verdictOf code
+verdict-back : (v : Verdict) → verdict-of (code v) ≡ v
+unfolding verdict-of code
 verdict-back Fresh = refl
 verdict-back Known = refl
 verdict-back Beyond = refl
@@ -40,13 +40,13 @@ verdict-back Trim = refl
 verdict-back TrimLastHop = refl
 
 pub code-apart : (v w : Verdict) → code v ≡ code w → v ≡ w
-code-apart = apart code verdictOf verdict-back
+code-apart = apart code verdict-of verdict-back
 
 -- ---- answers to events
 acked : Line → Answer
 acked l =
     let n : ℕ → ℕ = λ i. getD (l .values) i 0 in
-    answer.Acked (verdictOf (n 0)) (record {
+    answer.Acked (verdict-of (n 0)) (record {
       cack = psn (n 1);
       block = record { base = psn (n 2); bitmap = n 3 };
       count = n 4;
@@ -59,10 +59,10 @@ acked l =
 nacked : Line → Answer
 nacked l =
     let n : ℕ → ℕ = λ i. getD (l .values) i 0 in
-    answer.Nacked (verdictOf (n 0)) (record { psn = psn (n 1); reason = getD (l .unprinted) 0 0; entropy = n 2; rtx = eqb (n 3) 1 })
+    answer.Nacked (verdict-of (n 0)) (record { psn = psn (n 1); reason = getD (l .unprinted) 0 0; entropy = n 2; rtx = eqb (n 3) 1 })
 
-answerOf : Line → Answer
-answerOf l =
+answer-of : Line → Answer
+answer-of l =
     let n : ℕ → ℕ = λ i. getD (l .values) i 0 in
     getD
     (answer.Refused (l .number)
@@ -77,8 +77,8 @@ answerOf l =
     ∷ [])
     (l .kind) answer.Started
 
-answer-back : (a : Answer) → answerOf (paper a) ≡ a
-unfolding answerOf paper acked nacked
+answer-back : (a : Answer) → answer-of (paper a) ≡ a
+unfolding answer-of paper acked nacked
 answer-back (answer.Refused n) = refl
 answer-back answer.Started = refl
 answer-back answer.Closed = refl
@@ -104,34 +104,34 @@ answer-back (answer.Expired n) = refl
 answer-back (answer.Resent p) = refl
 
 pub answers-apart : (x y : Answer) → paper x ≡ paper y → x ≡ y
-answers-apart = apart paper answerOf answer-back
+answers-apart = apart paper answer-of answer-back
 
 -- ---- answers of the log's reader
 no-values : List ℕ → Bool
 no-values [] = true
 no-values (v ∷ l) = false
 
-readOf : Line → Read
-readOf l =
+read-of : Line → Read
+read-of l =
     let n : ℕ → ℕ = λ i. getD (l .values) i 0 in
-    cond (no-values (l .values)) (reading.Nothing (l .number)) (reading.Record (n 2) (eventOf (n 0) (drop 3 (l .values))) (l .kind) (n 1))
+    cond (no-values (l .values)) (reading.Nothing (l .number)) (reading.Record (n 2) (event-of (n 0) (drop 3 (l .values))) (l .kind) (n 1))
 
-read-back : (r : Read) → readOf (read-line r) ≡ r
-unfolding readOf read-line no-values
+read-back : (r : Read) → read-of (read-line r) ≡ r
+unfolding read-of read-line no-values
 read-back (reading.Record slot e kind next) = ap (λ (f : Event). reading.Record slot f kind next) (event-again e)
 read-back (reading.Nothing n) = refl
 
 pub reads-apart : (x y : Read) → read-line x ≡ read-line y → x ≡ y
-reads-apart = apart read-line readOf read-back
+reads-apart = apart read-line read-of read-back
 
 -- ---- answers of the log's writer
-writtenOf : Line → Written
-writtenOf l = cond (no-values (l .values)) (writing.Refused (l .number)) (writing.Length (getD (l .values) 0 0))
+written-of : Line → Written
+written-of l = cond (no-values (l .values)) (writing.Refused (l .number)) (writing.Length (getD (l .values) 0 0))
 
-written-back : (w : Written) → writtenOf (written-line w) ≡ w
-unfolding writtenOf written-line no-values
+written-back : (w : Written) → written-of (written-line w) ≡ w
+unfolding written-of written-line no-values
 written-back (writing.Refused n) = refl
 written-back (writing.Length n) = refl
 
 pub writes-apart : (x y : Written) → written-line x ≡ written-line y → x ≡ y
-writes-apart = apart written-line writtenOf written-back
+writes-apart = apart written-line written-of written-back

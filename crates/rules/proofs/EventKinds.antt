@@ -8,14 +8,14 @@ use borrow.Author.Tests.{ltb-true, leb-true}
 use lib.Dec.{leb, ltb}
 use lib.ListN.{length, getD, drop, drop-of-length-le}
 use lib.Seq.{drop-cons}
-use Rattle.rules.specs.Paper.{kindOf, fieldsOf}
-use Rattle.rules.specs.Log.{layouts, widths, kind-ok, eventOf}
+use Rattle.rules.specs.Paper.{kind-of, fields-of}
+use Rattle.rules.specs.Log.{layouts, widths, kind-ok, event-of}
 use Rattle.rules.specs.declared.Event.{Event}
 use Rattle.rules.specs.declared.Event.the-variants as event
 use Rattle.lists.proofs.Joined.{and-true-each}
 
-pub known-kind : (e : Event) → kind-ok (kindOf e) ≡ true
-unfolding kindOf layouts
+pub known-kind : (e : Event) → kind-ok (kind-of e) ≡ true
+unfolding kind-of layouts
 known-kind (event.Start a b c d) = refl
 known-kind event.Close = refl
 known-kind (event.Send z) = refl
@@ -25,8 +25,8 @@ known-kind (event.Nack p n) = refl
 known-kind (event.Timer p) = refl
 known-kind event.Resend = refl
 
-pub event-again : (e : Event) → eventOf (kindOf e) (fieldsOf e) ≡ e
-unfolding kindOf fieldsOf eventOf
+pub event-again : (e : Event) → event-of (kind-of e) (fields-of e) ≡ e
+unfolding kind-of fields-of event-of
 event-again (event.Start a b c d) = refl
 event-again event.Close = refl
 event-again (event.Send z) = refl
@@ -54,9 +54,9 @@ by-kind P a b c d e f g h (suc (suc (suc (suc (suc (suc (suc (suc zero)))))))) o
 by-kind P a b c d e f g h (suc (suc (suc (suc (suc (suc (suc (suc (suc k))))))))) o =
     absurd (omega (arith, known-range (suc (suc (suc (suc (suc (suc (suc (suc (suc k))))))))) o))
 
-pub kind-again : (k : ℕ) (l : List ℕ) → kind-ok k ≡ true → kindOf (eventOf k l) ≡ k
-unfolding eventOf kindOf
-kind-again k l o = by-kind (λ n. kindOf (eventOf n l) ≡ n) refl refl refl refl refl refl refl refl k o
+pub kind-again : (k : ℕ) (l : List ℕ) → kind-ok k ≡ true → kind-of (event-of k l) ≡ k
+unfolding event-of kind-of
+kind-again k l o = by-kind (λ n. kind-of (event-of n l) ≡ n) refl refl refl refl refl refl refl refl k o
 
 -- the n elements from place i on
 listed : List ℕ → ℕ → ℕ → List ℕ
@@ -68,10 +68,10 @@ unfolding listed
 listed-all l i zero h = sym (drop-of-length-le l {i = i} (omega arith))
 listed-all l i (suc n) h = ap (λ (t : List ℕ). getD l i 0 ∷ t) (listed-all l (suc i) n (omega arith)) ∙ sym (drop-cons l i 0 (omega arith))
 
-pub fields-again : (k : ℕ) (l : List ℕ) → kind-ok k ≡ true → length l ≡ length (widths k) → fieldsOf (eventOf k l) ≡ l
-unfolding eventOf fieldsOf widths layouts listed
+pub fields-again : (k : ℕ) (l : List ℕ) → kind-ok k ≡ true → length l ≡ length (widths k) → fields-of (event-of k l) ≡ l
+unfolding event-of fields-of widths layouts listed
 fields-again k l o =
-    by-kind (λ n. length l ≡ length (widths n) → fieldsOf (eventOf n l) ≡ l)
+    by-kind (λ n. length l ≡ length (widths n) → fields-of (event-of n l) ≡ l)
     (all 4) (all 0) (all 1) (all 4) (all 3) (all 2) (all 1) (all 0) k o
   where
     all : (n : ℕ) → length l ≡ n → listed l 0 n ≡ l

@@ -7,7 +7,7 @@ use native.Mathlib.Omega.{arith}
 use native.Mathlib.Nat.{pow-suc}
 use lib.ListN.{length, getD}
 use Rattle.lists.specs.Index.{table}
-use Rattle.word.specs.Word.{bitAt, Bits}
+use Rattle.word.specs.Word.{bit-at, Bits}
 use Rattle.lists.proofs.Index.{length-table, getD-table}
 use Rattle.word.proofs.Bits.{bit-none, bit-even, bit-odd, bit-suc}
 use Rattle.lists.specs.Lists.{pack}
@@ -19,12 +19,12 @@ pack-lt (true ∷ l) = omega (arith, pack-lt l, pow-suc 2 (length l))
 pack-lt (false ∷ l) = omega (arith, pack-lt l, pow-suc 2 (length l))
 
 -- bit i is entry i
-pub bit-pack : (l : List Bool) (i : ℕ) → bitAt (pack l) i ≡ getD l i false
+pub bit-pack : (l : List Bool) (i : ℕ) → bit-at (pack l) i ≡ getD l i false
 unfolding pack
 bit-pack [] i = bit-none i
 bit-pack (true ∷ l) zero = bit-odd (1 + 2 * pack l) (omega arith)
 bit-pack (false ∷ l) zero = bit-even (0 + 2 * pack l) (omega arith)
-bit-pack (b ∷ l) (suc i) = bit-suc (cond b 1 0 + 2 * pack l) i ∙ ap (λ (n : ℕ). bitAt n i) (half b) ∙ bit-pack l i
+bit-pack (b ∷ l) (suc i) = bit-suc (cond b 1 0 + 2 * pack l) i ∙ ap (λ (n : ℕ). bit-at n i) (half b) ∙ bit-pack l i
   where
     half : (b : Bool) → (cond b 1 0 + 2 * pack l) / 2 ≡ pack l
     half true = omega arith

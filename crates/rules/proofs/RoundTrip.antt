@@ -6,7 +6,7 @@ use native.Mathlib.Omega.{arith}
 use lib.ListN.{length, take, drop, length-append, length-drop}
 use lib.Seq.{drop-append-seam}
 use Rattle.rules.specs.Numbers.{longest-log}
-use Rattle.rules.specs.Paper.{kindOf, fieldsOf}
+use Rattle.rules.specs.Paper.{kind-of, fields-of}
 use Rattle.rules.specs.Log.{widths, whole, Fits, encode, read, write, written}
 use Rattle.rules.specs.declared.Event.{Event}
 use Rattle.rules.specs.declared.Read.the-variants.{Record}
@@ -17,36 +17,36 @@ use Rattle.rules.proofs.Reading.{read-holds, holds-read}
 use Rattle.rules.proofs.Writing.{write-writable, writable-write}
 
 -- "A log record written is read back as the same event": wherever it stands in a log
-pub encode-read : (slot : ℕ) (e : Event) (before after : List ℕ) (n : ℕ) → Fits (widths (kindOf e)) (fieldsOf e)
-    → write e n ≡ writing.Length (whole (kindOf e)) → length (before ++ (encode slot e ++ after)) ≤ longest-log
-    → read (before ++ (encode slot e ++ after)) (length before) ≡ Record slot e (kindOf e) (length before + whole (kindOf e))
+pub encode-read : (slot : ℕ) (e : Event) (before after : List ℕ) (n : ℕ) → Fits (widths (kind-of e)) (fields-of e)
+    → write e n ≡ writing.Length (whole (kind-of e)) → length (before ++ (encode slot e ++ after)) ≤ longest-log
+    → read (before ++ (encode slot e ++ after)) (length before) ≡ Record slot e (kind-of e) (length before + whole (kind-of e))
 encode-read slot e before after n f w l =
-    let low = write-writable e n (whole (kindOf e)) w .0 .low in
-    holds-read (before ++ (encode slot e ++ after)) (length before) slot e (kindOf e) (length before + whole (kindOf e))
+    let low = write-writable e n (whole (kind-of e)) w .0 .low in
+    holds-read (before ++ (encode slot e ++ after)) (length before) slot e (kind-of e) (length before + whole (kind-of e))
     (record { short = l; begins = rw drop-append-seam (encode-begins slot e after f low); next-is = refl })
 
 -- and in the buffer that it was written to
-pub write-read : (slot : ℕ) (e : Event) (buffer : List ℕ) (n : ℕ) → Fits (widths (kindOf e)) (fieldsOf e)
+pub write-read : (slot : ℕ) (e : Event) (buffer : List ℕ) (n : ℕ) → Fits (widths (kind-of e)) (fields-of e)
     → length buffer ≤ longest-log → write e (length buffer) ≡ writing.Length n
-    → read (written slot e buffer (writing.Length n)) 0 ≡ Record slot e (kindOf e) n
+    → read (written slot e buffer (writing.Length n)) 0 ≡ Record slot e (kind-of e) n
 unfolding written
 write-read slot e buffer n f l w =
     let a = write-writable e (length buffer) n w in
-    let m : n ≡ whole (kindOf e) = a .1 in
+    let m : n ≡ whole (kind-of e) = a .1 in
     let long : length (encode slot e ++ drop n buffer) ≤ longest-log =
     omega (arith, a .0 .room, length-append (encode slot e) (drop n buffer), length-encode slot e, length-drop n buffer) in
-    encode-read slot e [] (drop n buffer) (length buffer) f (w ∙ ap writing.Length m) long ∙ ap (Record slot e (kindOf e)) (omega arith)
+    encode-read slot e [] (drop n buffer) (length buffer) f (w ∙ ap writing.Length m) long ∙ ap (Record slot e (kind-of e)) (omega arith)
 
 -- what is read has the kind that it says, and fits
 pub read-kind : (log : List ℕ) (place slot : ℕ) (e : Event) (kind next : ℕ) → read log place ≡ Record slot e kind next
-    → (kind ≡ kindOf e) × (next ≡ place + whole kind) × (next ≤ length log)
+    → (kind ≡ kind-of e) × (next ≡ place + whole kind) × (next ≤ length log)
 read-kind log place slot e kind next h =
     let r = read-holds log place slot e kind next h in
     let b = r .begins in
     (sym (begins-kind (drop place log) slot e kind b), r .next-is, omega (arith, r .next-is, b .room, length-drop place log))
 
 pub read-fits : (log : List ℕ) (place slot : ℕ) (e : Event) (kind next : ℕ) → Bytes log → read log place ≡ Record slot e kind next
-    → Fits (widths (kindOf e)) (fieldsOf e)
+    → Fits (widths (kind-of e)) (fields-of e)
 read-fits log place slot e kind next b h =
     begins-fits (drop place log) slot e kind (read-holds log place slot e kind next h .begins) (bytes-drop place log b)
 
@@ -65,7 +65,7 @@ pub read-write : (log : List ℕ) (place slot : ℕ) (e : Event) (kind next : �
 unfolding written
 read-write log place slot e kind next buffer b h l =
     let r = read-holds log place slot e kind next h in
-    let n : whole (kindOf e) ≡ next - place = ap whole (begins-kind (drop place log) slot e kind (r .begins)) ∙ omega (arith, r .next-is) in
+    let n : whole (kind-of e) ≡ next - place = ap whole (begins-kind (drop place log) slot e kind (r .begins)) ∙ omega (arith, r .next-is) in
     let low = begins-low (drop place log) slot e kind (r .begins) (bytes-drop place log b) in
     let w : write e (length buffer) ≡ writing.Length (next - place) =
     writable-write e (length buffer) (record { low = low; room = omega arith }) ∙ ap writing.Length n in

@@ -1,5 +1,5 @@
 -- 01, The event log: the bytes of a record, how a log is read and how a record is written. Two tables go by kind, the fields of an
--- event (`fieldsOf` and `eventOf`) and their widths; nothing else does.
+-- event (`fields-of` and `event-of`) and their widths; nothing else does.
 use mathlib.Core.Path.{_≡_}
 use mathlib.Core.Bool.{Bool, false, not, cond, _&&_, _||_}
 use mathlib.Core.List.{List, [], _∷_, _++_}
@@ -8,7 +8,7 @@ use lib.Dec.{leb, ltb, eqb}
 use lib.ListN.{length, getD, take, drop}
 use Rattle.rules.specs.Numbers.{turn, psn, longest-log}
 use Rattle.lists.specs.Lists.{sum}
-use Rattle.rules.specs.Paper.{kindOf, fieldsOf}
+use Rattle.rules.specs.Paper.{kind-of, fields-of}
 use Rattle.rules.specs.declared.Event.{Event}
 use Rattle.rules.specs.declared.Event.the-variants as event
 use Rattle.rules.specs.declared.Read.{Read}
@@ -56,8 +56,8 @@ number-all [] l = []
 number-all (w ∷ ws) l = number (take w l) ∷ number-all ws (drop w l)
 
 -- the event of a kind with these fields
-unfoldable pub eventOf : ℕ → List ℕ → Event
-eventOf kind l =
+unfoldable pub event-of : ℕ → List ℕ → Event
+event-of kind l =
     let a = getD l 0 0 in
     let b = getD l 1 0 in
     let c = getD l 2 0 in
@@ -77,7 +77,7 @@ eventOf kind l =
 
 -- "Each record begins with the two bytes 4D 52, then kind, then slot (one byte)"
 unfoldable pub encode : ℕ → Event → List ℕ
-encode slot e = 0x4D ∷ 0x52 ∷ kindOf e ∷ slot ∷ spell-all (widths (kindOf e)) (fieldsOf e)
+encode slot e = 0x4D ∷ 0x52 ∷ kind-of e ∷ slot ∷ spell-all (widths (kind-of e)) (fields-of e)
 
 -- "An event .. has only its fields, in the width given here, but PSNs have 32 bits": so wide is a field in an event
 abbrev pub held-width : ℕ → ℕ
@@ -100,7 +100,7 @@ read-left l place =
     (cond (not (has-mark l)) (Nothing 11)
     (cond (not (kind-ok kind)) (Nothing 12)
     (cond (ltb (length l) (whole kind)) (Nothing 10)
-    (Record (getD l 3 0) (eventOf kind (number-all (widths kind) (drop 4 l))) kind (place + whole kind)))))
+    (Record (getD l 3 0) (event-of kind (number-all (widths kind) (drop 4 l))) kind (place + whole kind)))))
 
 -- "Log reading: 13, then ..". "With none left, or a place past the end, the log is at its end, no refusal"
 unfoldable pub read : List ℕ → ℕ → Read
@@ -122,8 +122,8 @@ high-psn (w ∷ ws) (v ∷ vs) = eqb w psn-width && leb turn v || high-psn ws vs
 -- "Log writing: 5, then 16; .. the length is the answer", for a buffer of n bytes
 unfoldable pub write : Event → ℕ → Written
 write e n =
-    cond (high-psn (widths (kindOf e)) (fieldsOf e)) (writing.Refused 5)
-    (cond (ltb n (whole (kindOf e))) (writing.Refused 16) (writing.Length (whole (kindOf e))))
+    cond (high-psn (widths (kind-of e)) (fields-of e)) (writing.Refused 5)
+    (cond (ltb n (whole (kind-of e))) (writing.Refused 16) (writing.Length (whole (kind-of e))))
 
 -- the buffer after: "from the buffer's first byte; .. later bytes stay"
 unfoldable pub written : ℕ → Event → List ℕ → Written → List ℕ

@@ -2,7 +2,7 @@
 use mathlib.Core.Bool.{Bool, not, _&&_}
 use Prim.Native.Nat.{ℕ, _+_, _/_, _%_, _^_}
 use lib.Dec.{leb, ltb, eqb}
-use Rattle.word.specs.Word.{bitAt}
+use Rattle.word.specs.Word.{bit-at}
 pub use Rattle.psn.specs.Psn.{turn, half, before, behind}
 unfoldable pub use Rattle.psn.specs.Psn.{after, distance}
 use Rattle.psn.specs.declared.Psn.{Psn}
@@ -41,19 +41,19 @@ size-ok z = leb least-size z && leb z largest-size
 
 -- 01, The receiving side: "bit 0 ECN mark, bit 1 RTX, bit 2 trimmed, bit 3 trimmed at last hop, bit 4 no buffer"
 abbrev pub ecn : ℕ → Bool
-ecn f = bitAt f 0
+ecn f = bit-at f 0
 
 abbrev pub rtx : ℕ → Bool
-rtx f = bitAt f 1
+rtx f = bit-at f 1
 
 abbrev pub trimmed : ℕ → Bool
-trimmed f = bitAt f 2
+trimmed f = bit-at f 2
 
 abbrev pub trimmed-last-hop : ℕ → Bool
-trimmed-last-hop f = bitAt f 3
+trimmed-last-hop f = bit-at f 3
 
 abbrev pub no-buffer : ℕ → Bool
-no-buffer f = bitAt f 4
+no-buffer f = bit-at f 4
 
 -- "14: any of flag bits 5 to 7 set, or bits 2 and 3 both"
 unfoldable pub flags-ok : ℕ → Bool

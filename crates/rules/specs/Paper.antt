@@ -60,30 +60,30 @@ paper (answer.Resent p) = done 8 (p .0 ∷ []) []
 
 -- 01, The event log: "1 start: send room 2, send PSN, receive room 2, receive PSN. 2 close. 3 send: size 2. 4 arrive: PSN, size 2, flags
 -- 1, entropy 4. 5 SACK: cack, base, bitmap 8. 6 NACK: PSN, reason 1. 7 timer: PSN. 8 resend."
-unfoldable pub kindOf : Event → ℕ
-kindOf (event.Start a b c d) = 1
-kindOf event.Close = 2
-kindOf (event.Send z) = 3
-kindOf (event.Arrive a) = 4
-kindOf (event.Sack c b) = 5
-kindOf (event.Nack p n) = 6
-kindOf (event.Timer p) = 7
-kindOf event.Resend = 8
+unfoldable pub kind-of : Event → ℕ
+kind-of (event.Start a b c d) = 1
+kind-of event.Close = 2
+kind-of (event.Send z) = 3
+kind-of (event.Arrive a) = 4
+kind-of (event.Sack c b) = 5
+kind-of (event.Nack p n) = 6
+kind-of (event.Timer p) = 7
+kind-of event.Resend = 8
 
-unfoldable pub fieldsOf : Event → List ℕ
-fieldsOf (event.Start a b c d) = a ∷ b .0 ∷ c ∷ d .0 ∷ []
-fieldsOf event.Close = []
-fieldsOf (event.Send z) = z ∷ []
-fieldsOf (event.Arrive a) = a .psn .0 ∷ a .size ∷ a .flags ∷ a .entropy ∷ []
-fieldsOf (event.Sack c b) = c .0 ∷ b .base .0 ∷ b .bitmap ∷ []
-fieldsOf (event.Nack p n) = p .0 ∷ n ∷ []
-fieldsOf (event.Timer p) = p .0 ∷ []
-fieldsOf event.Resend = []
+unfoldable pub fields-of : Event → List ℕ
+fields-of (event.Start a b c d) = a ∷ b .0 ∷ c ∷ d .0 ∷ []
+fields-of event.Close = []
+fields-of (event.Send z) = z ∷ []
+fields-of (event.Arrive a) = a .psn .0 ∷ a .size ∷ a .flags ∷ a .entropy ∷ []
+fields-of (event.Sack c b) = c .0 ∷ b .base .0 ∷ b .bitmap ∷ []
+fields-of (event.Nack p n) = p .0 ∷ n ∷ []
+fields-of (event.Timer p) = p .0 ∷ []
+fields-of event.Resend = []
 
 -- "A record read gives its event, kind, body and the place after it; on a refusal or at the end there is no event, kind and place are
 -- 0". The body is a part of the log and is told apart (`body` of Log).
 unfoldable pub read-line : Read → Line
-read-line (reading.Record slot e kind next) = done kind (kindOf e ∷ next ∷ slot ∷ fieldsOf e) []
+read-line (reading.Record slot e kind next) = done kind (kind-of e ∷ next ∷ slot ∷ fields-of e) []
 read-line (reading.Nothing n) = refused n
 
 -- "the length is the answer"

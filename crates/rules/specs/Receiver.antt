@@ -85,8 +85,8 @@ block r p =
 
 -- "The SACK gives cack = E - 1, the count divided by 256 (24 bits), MPR 0, and a block"; "Both copy entropy and RTX; only the SACK
 -- has the ECN mark". The record is the one after the event.
-unfoldable pub sackOf : Receiver → Arrival → Sack
-sackOf r a = record {
+unfoldable pub sack-of : Receiver → Arrival → Sack
+sack-of r a = record {
   cack = psn (before (r .expected));
   block = block r (a .psn .0);
   count = r .count / 256;
@@ -98,25 +98,25 @@ sackOf r a = record {
 
 -- "the others a NACK with the PSN and the reason". The reasons are numbered as the sending side takes them: 1 TRIM,
 -- 2 TRIM_LASTHOP, 3 NO_BITMAP, 4 NO_PKT_BUFFER; a SACK has none.
-unfoldable pub reasonOf : Verdict → ℕ
-reasonOf Fresh = 0
-reasonOf Known = 0
-reasonOf Beyond = 3
-reasonOf NoBuffer = 4
-reasonOf Trim = 1
-reasonOf TrimLastHop = 2
+unfoldable pub reason-of : Verdict → ℕ
+reason-of Fresh = 0
+reason-of Known = 0
+reason-of Beyond = 3
+reason-of NoBuffer = 4
+reason-of Trim = 1
+reason-of TrimLastHop = 2
 
-unfoldable pub nackOf : Verdict → Arrival → Nack
-nackOf v a = record { psn = a .psn; reason = reasonOf v; entropy = a .entropy; rtx = rtx (a .flags) }
+unfoldable pub nack-of : Verdict → Arrival → Nack
+nack-of v a = record { psn = a .psn; reason = reason-of v; entropy = a .entropy; rtx = rtx (a .flags) }
 
 -- "Answers 0 and 1 bring a SACK, the others a NACK"; only a fresh packet changes the record
 unfoldable pub judged : Receiver → Arrival → Verdict → Outcome Receiver
-judged r a Fresh = let r′ = accept r a in Done r′ (answer.Acked Fresh (sackOf r′ a))
-judged r a Known = Done r (answer.Acked Known (sackOf r a))
-judged r a Beyond = Done r (answer.Nacked Beyond (nackOf Beyond a))
-judged r a NoBuffer = Done r (answer.Nacked NoBuffer (nackOf NoBuffer a))
-judged r a Trim = Done r (answer.Nacked Trim (nackOf Trim a))
-judged r a TrimLastHop = Done r (answer.Nacked TrimLastHop (nackOf TrimLastHop a))
+judged r a Fresh = let r′ = accept r a in Done r′ (answer.Acked Fresh (sack-of r′ a))
+judged r a Known = Done r (answer.Acked Known (sack-of r a))
+judged r a Beyond = Done r (answer.Nacked Beyond (nack-of Beyond a))
+judged r a NoBuffer = Done r (answer.Nacked NoBuffer (nack-of NoBuffer a))
+judged r a Trim = Done r (answer.Nacked Trim (nack-of Trim a))
+judged r a TrimLastHop = Done r (answer.Nacked TrimLastHop (nack-of TrimLastHop a))
 
 -- refusals 2, 5, 6, 14
 unfoldable pub arrive : Receiver → Arrival → Outcome Receiver

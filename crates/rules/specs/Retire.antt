@@ -4,7 +4,7 @@ use mathlib.Core.List.{List, [], _∷_, map}
 use Prim.Native.Nat.{ℕ, zero, suc, _+_}
 use lib.Dec.{leb, ltb}
 use lib.ListN.{drop}
-use Rattle.word.specs.Word.{bitAt}
+use Rattle.word.specs.Word.{bit-at}
 use Rattle.rules.specs.Numbers.{behind, after, distance, psn, psn-ok}
 use Rattle.lists.specs.Lists.{lead, any}
 use Rattle.rules.specs.Outcome.{Outcome, Done, refuse}
@@ -24,14 +24,14 @@ up-to x cack = let d = distance (x .place) cack in cond (leb d (outstanding x)) 
 
 -- "Each set bit retires its PSN if outstanding, is ignored if behind place + 1 .., otherwise names unsent"
 unfoldable pub unsent-bit : Sender → Block → Bool
-unsent-bit x b = any 64 (λ j. bitAt (b .bitmap) j && unsent x (after (b .base .0) j))
+unsent-bit x b = any 64 (λ j. bit-at (b .bitmap) j && unsent x (after (b .base .0) j))
 
 unfoldable pub names-unsent : Sender → ℕ → Block → Bool
 names-unsent x cack b = unsent-cack x cack || unsent-bit x b
 
 -- a set bit names a PSN. "A clear bit says nothing"
 unfoldable pub has-bit : Block → ℕ → Bool
-has-bit b p = let d = distance (b .base .0) p in ltb d 64 && bitAt (b .bitmap) d
+has-bit b p = let d = distance (b .base .0) p in ltb d 64 && bit-at (b .bitmap) d
 
 -- whether entry i is named, by cack or by a bit
 unfoldable pub named : Sender → ℕ → Block → ℕ → Bool

@@ -13,10 +13,10 @@ use Rattle.psn.specs.declared.Psn.{Psn}
 use Rattle.psn.specs.Psn.{turn, half, after, distance}
 use Rattle.psn.proofs.Circle.{after-lt, after-after, after-turn, distance-after, ahead as ahead-by}
 use Rattle.lists.specs.Index.{total, weigh, First, table}
-use Rattle.word.specs.Word.{bitAt}
+use Rattle.word.specs.Word.{bit-at}
 use Rattle.lists.proofs.Index.{total-same, total-add, total-none, total-both, total-window, table-same, map-table, drop-table}
 use Rattle.row.proofs.Rows.{run-from, run-stops}
-use Rattle.row.specs.Row.{at, bits, isClear, Becomes}
+use Rattle.row.specs.Row.{at, bits, is-clear, Becomes}
 use Rattle.rules.specs.Numbers.{psn, size-ok, largest-room, words}
 use Rattle.lists.specs.Lists.{lead, any}
 use Rattle.rules.specs.Sender.{Entry, size-held, held, unsent}
@@ -25,7 +25,7 @@ use Rattle.rules.specs.Sender as rule
 use Rattle.rules.specs.declared.Block.{Block}
 use Rattle.rules.specs.declared.Answer.the-variants as answer
 use Rattle.lists.proofs.Joined.{and-true-each, or-false-each, never-true}
-use Rattle.retire.specs.Rows.{names, fresh, sizeAt, Retires}
+use Rattle.retire.specs.Rows.{names, fresh, size-at, Retires}
 use Rattle.retire.specs.declared.Sum.{Sum}
 use Rattle.word.proofs.Compare.{leb-same}
 use Rattle.retire.proofs.Naming.{size-on}
@@ -136,10 +136,10 @@ module _ (x : Sender) (cack : ℕ) (b : Block) (u : ℕ) (R M : List ℕ) (out :
       let e : i ≡ distance (after a 1) (after a (1 + i)) = sym (ahead-by a 1 (1 + i) (omega arith) (omega arith) ∙ omega arith) in
       unsent-is x (after a (1 + i)) i (e ∙ sym (index-is x (after a (1 + i)))) ∙ unsent-past x i l ∙ ap not (lt-leb half i m)
 
-  no-unsent-bit : any 64 (λ j. bitAt (b .bitmap) j && unsent (meaning x) (after (b .base .0) j)) ≡ false
+  no-unsent-bit : any 64 (λ j. bit-at (b .bitmap) j && unsent (meaning x) (after (b .base .0) j)) ≡ false
   unfolding names-unsent unsent-bit
   no-unsent-bit =
-      let unsent-at : ℕ → Bool = λ j. bitAt (b .bitmap) j && unsent (meaning x) (after (b .base .0) j) in
+      let unsent-at : ℕ → Bool = λ j. bit-at (b .bitmap) j && unsent (meaning x) (after (b .base .0) j) in
       or-false-each (unsent-cack (meaning x) cack) (any 64 unsent-at) (all .none-unsent) .1
 
   no-bit-past : (i : ℕ) → x .outstanding ≤ i → i < half → has-bit b (after (x .place .0) (1 + i)) ≡ false
@@ -148,12 +148,12 @@ module _ (x : Sender) (cack : ℕ) (b : Block) (u : ℕ) (R M : List ℕ) (out :
       let q = after (x .place .0) (1 + i) in
       let base = b .base .0 in
       let d = distance base q in
-      let unsent-at : ℕ → Bool = λ j. bitAt (b .bitmap) j && unsent (meaning x) (after base j) in
+      let unsent-at : ℕ → Bool = λ j. bit-at (b .bitmap) j && unsent (meaning x) (after base j) in
       let is-unsent : unsent (meaning x) (after base d) ≡ true =
       ap (unsent (meaning x)) (distance-after base q (after-lt (x .place .0) (1 + i))) ∙ bit-unsent i l m in
-      never-true (ltb d 64 && bitAt (b .bitmap) d)
+      never-true (ltb d 64 && bit-at (b .bitmap) d)
       (λ e.
-      let each = and-true-each (ltb d 64) (bitAt (b .bitmap) d) e in
+      let each = and-true-each (ltb d 64) (bit-at (b .bitmap) d) e in
       let named-unsent = any-some 64 unsent-at d (ltb-true d 64 (each .0)) (ap₂ (λ (s t : Bool). s && t) (each .1) is-unsent) in
       false≢true (sym no-unsent-bit ∙ named-unsent))
 
@@ -239,7 +239,7 @@ module _ (x : Sender) (cack : ℕ) (b : Block) (u : ℕ) (R M : List ℕ) (out :
   bytes-is =
       let a = x .place .0 in
       all .rows .weighed
-      ∙ weigh-in (sizeAt (x .sizes) (row-first a)) (λ i. getD (x .sizes) (size-at x i) 0)
+      ∙ weigh-in (size-at (x .sizes) (row-first a)) (λ i. getD (x .sizes) (size-at x i) 0)
       (λ i l. ap (λ (n : ℕ). getD (x .sizes) n 0) (row-size a i))
 
   bytes-split : total (x .outstanding) (λ i. size-held (mid i)) + out .bytes ≡ x .held
@@ -254,7 +254,7 @@ module _ (x : Sender) (cack : ℕ) (b : Block) (u : ℕ) (R M : List ℕ) (out :
   bytes-le = omega (arith, bytes-split)
 
   -- ---- the place moves over the run of retired
-  module _ (t : ℕ) (run : First (isClear R) (offset x + x .outstanding) t) where
+  module _ (t : ℕ) (run : First (is-clear R) (offset x + x .outstanding) t) where
     pub past-offset : offset x ≤ t
     past-offset = run-from R (offset x) (offset x + x .outstanding) t run (omega arith) R-before
 
@@ -267,7 +267,7 @@ module _ (x : Sender) (cack : ℕ) (b : Block) (u : ℕ) (R M : List ℕ) (out :
     lead-is : lead (map is-retired (table (x .outstanding) mid)) ≡ t - offset x
     lead-is =
         ap lead (map-table is-retired (x .outstanding) mid)
-        ∙ lead-table (x .outstanding) (λ i. at R (offset x + i)) (t - offset x) (first-from (isClear R) (offset x) (x .outstanding) t run past-offset)
+        ∙ lead-table (x .outstanding) (λ i. at R (offset x + i)) (t - offset x) (first-from (is-clear R) (offset x) (x .outstanding) t run past-offset)
 
     -- ---- whole words go
     module _ (R″ M″ : List ℕ) (R-shed : Becomes R R″ (λ p. at R (64 * (t / 64) + p))) (M-shed : Becomes M M″ (λ p. at M (64 * (t / 64) + p)))

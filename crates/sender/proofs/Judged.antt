@@ -8,7 +8,7 @@ use lib.Count.{trailingZeros}
 use lib.Dec.{ltb, leb, eqb}
 use borrow.Author.Tests.{lt-ltb, le-ltb, le-leb, lt-leb, eq-eqb, ne-eqb}
 use Rattle.psn.specs.Psn.{turn, half, after, distance}
-use Rattle.word.specs.Word.{bitAt, Bits}
+use Rattle.word.specs.Word.{bit-at, Bits}
 use Rattle.word.proofs.Bits.{bit-none, first-bit}
 use Rattle.lists.specs.Lists.{any}
 use Rattle.rules.specs.Sender.{index, unsent}
@@ -27,7 +27,7 @@ any-bit : (w : ℕ) (f : ℕ → Bool) → w < 2 ^ 64 → Bits w f → not (eqb 
 any-bit w f small e = go (ℕ-discrete w 0)
   where
     go : Dec (w ≡ 0) → not (eqb w 0) ≡ any 64 f
-    go (yes z) = ap not (eq-eqb w 0 z) ∙ sym (any-none 64 f (λ i l. sym (e i l) ∙ ap (λ (v : ℕ). bitAt v i) z ∙ bit-none i))
+    go (yes z) = ap not (eq-eqb w 0 z) ∙ sym (any-none 64 f (λ i l. sym (e i l) ∙ ap (λ (v : ℕ). bit-at v i) z ∙ bit-none i))
     go (no z) =
         let t = trailingZeros 64 w in
         let l = some-bit w t small z (first-bit 64 w) in
@@ -66,12 +66,12 @@ module _ (x : Sender) where
 
     -- it is not, and a bit is or is not: o is the index of the block's base, and w has the set bits that are unsent
     pub unsent-by-bit : (x .outstanding < d → d < half → ⊥) → (o w : ℕ) → o ≡ distance (after (x .place .0) 1) (b .base .0) → w < 2 ^ 64
-        → Bits w (λ j. bitAt (b .bitmap) j && ahead (x .outstanding) ((o + j) % turn)) → not (eqb w 0) ≡ names-unsent (meaning x) cack b
+        → Bits w (λ j. bit-at (b .bitmap) j && ahead (x .outstanding) ((o + j) % turn)) → not (eqb w 0) ≡ names-unsent (meaning x) cack b
     unfolding names-unsent unsent-bit
     unsent-by-bit n o w o-is small e =
-        let unsent-at : ℕ → Bool = λ j. bitAt (b .bitmap) j && unsent (meaning x) (after (b .base .0) j) in
+        let unsent-at : ℕ → Bool = λ j. bit-at (b .bitmap) j && unsent (meaning x) (after (b .base .0) j) in
         any-bit w unsent-at small
-        (λ j l. e j l ∙ ap (λ (t : Bool). bitAt (b .bitmap) j && t) (sym (unsent-is (after (b .base .0) j) ((o + j) % turn) (at j))))
+        (λ j l. e j l ∙ ap (λ (t : Bool). bit-at (b .bitmap) j && t) (sym (unsent-is (after (b .base .0) j) ((o + j) % turn) (at j))))
         ∙ ap (λ (t : Bool). t || any 64 unsent-at) (sym (cack-is ∙ not-past (decLt (x .outstanding) d)))
       where
         at : (j : ℕ) → (o + j) % turn ≡ index (meaning x) (after (b .base .0) j)

@@ -11,7 +11,7 @@ use lib.ListN.{length, getD, List·getD-eq-default}
 use borrow.Author.Tests.{lt-ltb, eq-eqb, ne-eqb}
 use Rattle.lists.specs.Index.{table}
 use Rattle.lists.proofs.Index.{length-table, getD-table, map-table, table-same}
-use Rattle.row.specs.Row.{at, bits, Becomes, withBit, withoutBit}
+use Rattle.row.specs.Row.{at, bits, Becomes, with-bit, without-bit}
 use Rattle.lists.specs.Lists.{update}
 use Rattle.rules.specs.Outcome.{Outcome, Refused, Done, left, answered}
 use Rattle.rules.specs.Paper.{paper}
@@ -31,17 +31,17 @@ use Rattle.sender.proofs.Entries.{same-entry, few}
 abbrev pub Puts : Bool → ℕ → List ℕ → List ℕ → Type 0
 Puts b p ws ws′ = (k : ℕ) → at ws′ k ≡ cond (eqb k p) b (at ws k)
 
-pub set-puts : (ws ws′ : List ℕ) (p : ℕ) → p < bits ws → Becomes ws ws′ (withBit ws p) → Puts true p ws ws′
+pub set-puts : (ws ws′ : List ℕ) (p : ℕ) → p < bits ws → Becomes ws ws′ (with-bit ws p) → Puts true p ws ws′
 set-puts ws ws′ p l h k = h .bits-are k ∙ go (ℕ-discrete k p)
   where
-    go : Dec (k ≡ p) → withBit ws p k ≡ cond (eqb k p) true (at ws k)
+    go : Dec (k ≡ p) → with-bit ws p k ≡ cond (eqb k p) true (at ws k)
     go (yes e) = rw (eq-eqb k p e, lt-ltb k (bits ws) (omega arith)) (or-true (at ws k))
     go (no e) = rw (ne-eqb k p e) (or-false (at ws k))
 
-pub clear-puts : (ws ws′ : List ℕ) (p : ℕ) → Becomes ws ws′ (withoutBit ws p) → Puts false p ws ws′
+pub clear-puts : (ws ws′ : List ℕ) (p : ℕ) → Becomes ws ws′ (without-bit ws p) → Puts false p ws ws′
 clear-puts ws ws′ p h k = h .bits-are k ∙ go (ℕ-discrete k p)
   where
-    go : Dec (k ≡ p) → withoutBit ws p k ≡ cond (eqb k p) false (at ws k)
+    go : Dec (k ≡ p) → without-bit ws p k ≡ cond (eqb k p) false (at ws k)
     go (yes e) = rw (eq-eqb k p e) (and-false (at ws k))
     go (no e) = rw (ne-eqb k p e) (and-true (at ws k))
 
@@ -126,7 +126,7 @@ module _ (x : Sender) (h : Started x) (p i : ℕ) (is : i ≡ index (meaning x) 
     mark-again e = marks-none (may-in (at (x .retired) (offset x + i)) true l refl e ∙ and-false (not (at (x .retired) (offset x + i))))
 
     pub mark-new : at (x .retired) (offset x + i) ≡ false → at (x .marked) (offset x + i) ≡ false
-        → (ws : List ℕ) → Becomes (x .marked) ws (withBit (x .marked) (offset x + i))
+        → (ws : List ℕ) → Becomes (x .marked) ws (with-bit (x .marked) (offset x + i))
         → (y : Sender) → y ≡ with-marked x ws → Marks x p (record { newly = 1; «record» = y })
     unfolding mark left answered
     mark-new r m ws set-it y y-is =

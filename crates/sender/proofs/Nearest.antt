@@ -7,7 +7,7 @@ use native.Mathlib.Omega.{arith}
 use native.Mathlib.Decide.{decLt}
 use lib.ListN.{getD}
 use Rattle.lists.specs.Index.{First}
-use Rattle.word.specs.Word.{bitAt}
+use Rattle.word.specs.Word.{bit-at}
 use Rattle.word.proofs.Bits.{bit-none}
 use Rattle.lists.proofs.Index.{map-table}
 use Rattle.row.specs.Row.{at}
@@ -34,7 +34,7 @@ none-in-word ws p none e k l = go (decLt k p)
     go (yes m) = none k m
     go (no m) =
         let same : k / 64 ≡ p / 64 = omega arith in
-        ap (λ (j : ℕ). bitAt (getD ws j 0) (k % 64)) same ∙ ap (λ (w : ℕ). bitAt w (k % 64)) e ∙ bit-none (k % 64)
+        ap (λ (j : ℕ). bit-at (getD ws j 0) (k % 64)) same ∙ ap (λ (w : ℕ). bit-at w (k % 64)) e ∙ bit-none (k % 64)
 
 module _ (x : Sender) (p : ℕ) (low : offset x ≤ p) (none : NoneBelow (x .marked) p) where
   nearest-is : (i : ℕ) → First (λ j. not (unmarked (entry x j))) (x .outstanding) i → nearest (meaning x) ≡ i

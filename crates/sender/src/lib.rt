@@ -2,11 +2,11 @@
 // and those after it. The sizes stand by packet number modulo the largest room.
 ghost use mathlib.Core.Path.{_≡_};
 ghost use mathlib.Core.Bool.{false};
-ghost use Rattle.rules.specs.Sender.{index as indexOf, send as sendOf, start as startOf, unsent as unsentOf};
-ghost use Rattle.rules.specs.Retire.{names-unsent, sack as sackOf};
-ghost use Rattle.rules.specs.Marks.{nack as nackOf, resend as resendOf, timer as timerOf};
+ghost use Rattle.rules.specs.Sender.{index as index-of, send as send-of, start as start-of, unsent as unsent-of};
+ghost use Rattle.rules.specs.Retire.{names-unsent, sack as sack-of};
+ghost use Rattle.rules.specs.Marks.{nack as nack-of, resend as resend-of, timer as timer-of};
 ghost use Rattle.rules.specs.Promise.{Meets};
-ghost use Rattle.sender.specs.Record.{empty as emptyOf, meaning, with-marked, Started, Sound, Marks, Acknowledges};
+ghost use Rattle.sender.specs.Record.{empty as empty-of, meaning, with-marked, Started, Sound, Marks, Acknowledges};
 use psn::HALF;
 use psn::Psn;
 use psn::TURN;
@@ -43,7 +43,7 @@ pub struct Marking {
 impl Sender {
     // The record of no connection: all zero.
     pub fn empty() -> Sender
-        ensures { λ r. ⌜ r ≡ emptyOf ⌝ }
+        ensures { λ r. ⌜ r ≡ empty-of ⌝ }
     {
         Sender {
             room: 0,
@@ -68,7 +68,7 @@ impl Sender {
 
     // A start. Refused, it hands back the empty record.
     pub fn start(room: u32, first: Psn) -> Stepped
-        ensures { λ r. ⌜ Meets Sound meaning emptyOf (startOf room first) (r .answer) (r .record) ⌝ }
+        ensures { λ r. ⌜ Meets Sound meaning empty-of (start-of room first) (r .answer) (r .record) ⌝ }
     {
         if !allowed::room_ok(room) {
             return Sender::empty().refused(4);
@@ -97,7 +97,7 @@ impl Sender {
     // A packet of this size is sent.
     pub fn send(self, size: u16) -> Stepped
         requires { ⌜ Sound self ⌝ }
-        ensures { λ r. ⌜ Meets Sound meaning self (sendOf (meaning self) size) (r .answer) (r .record) ⌝ }
+        ensures { λ r. ⌜ Meets Sound meaning self (send-of (meaning self) size) (r .answer) (r .record) ⌝ }
     {
         let room = self.room;
         let n = self.outstanding;
@@ -132,7 +132,7 @@ impl Sender {
 
     // From place + 1 to a packet number.
     fn index(self, psn: Psn) -> u32
-        ensures { λ r. ⌜ r ≡ indexOf (meaning self) (psn .0) ⌝ }
+        ensures { λ r. ⌜ r ≡ index-of (meaning self) (psn .0) ⌝ }
     {
         let place = self.place;
         place.after(1).distance(psn)
@@ -140,7 +140,7 @@ impl Sender {
 
     // Whether a packet number is neither outstanding nor behind place + 1.
     fn unsent(self, psn: Psn) -> bool
-        ensures { λ r. ⌜ r ≡ unsentOf (meaning self) (psn .0) ⌝ }
+        ensures { λ r. ⌜ r ≡ unsent-of (meaning self) (psn .0) ⌝ }
     {
         let n = self.outstanding;
         let i = self.index(psn);
@@ -207,7 +207,7 @@ impl Sender {
     // A timer ran out for a packet number.
     pub fn timer(self, psn: Psn) -> Stepped
         requires { ⌜ Sound self ⌝ }
-        ensures { λ r. ⌜ Meets Sound meaning self (timerOf (meaning self) psn) (r .answer) (r .record) ⌝ }
+        ensures { λ r. ⌜ Meets Sound meaning self (timer-of (meaning self) psn) (r .answer) (r .record) ⌝ }
     {
         let room = self.room;
         if room == 0 {
@@ -230,7 +230,7 @@ impl Sender {
     // A NACK for a packet number, with its reason.
     pub fn nack(self, psn: Psn, reason: u8) -> Stepped
         requires { ⌜ Sound self ⌝ }
-        ensures { λ r. ⌜ Meets Sound meaning self (nackOf (meaning self) psn reason) (r .answer) (r .record) ⌝ }
+        ensures { λ r. ⌜ Meets Sound meaning self (nack-of (meaning self) psn reason) (r .answer) (r .record) ⌝ }
     {
         let room = self.room;
         if room == 0 {
@@ -263,7 +263,7 @@ impl Sender {
     // over a word without a mark, and stops at the first found, which is its value.
     pub fn resend(self) -> Stepped
         requires { ⌜ Sound self ⌝ }
-        ensures { λ r. ⌜ Meets Sound meaning self (resendOf (meaning self)) (r .answer) (r .record) ⌝ }
+        ensures { λ r. ⌜ Meets Sound meaning self (resend-of (meaning self)) (r .answer) (r .record) ⌝ }
     {
         let room = self.room;
         if room == 0 {
@@ -357,7 +357,7 @@ impl Sender {
     // A SACK: judged whole before anything is retired.
     pub fn sack(self, cack: Psn, block: Block) -> Stepped
         requires { ⌜ Sound self ⌝ }
-        ensures { λ r. ⌜ Meets Sound meaning self (sackOf (meaning self) cack block) (r .answer) (r .record) ⌝ }
+        ensures { λ r. ⌜ Meets Sound meaning self (sack-of (meaning self) cack block) (r .answer) (r .record) ⌝ }
     {
         let room = self.room;
         if room == 0 {

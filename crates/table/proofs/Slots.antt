@@ -26,7 +26,7 @@ use Rattle.connection.specs.declared.Connection.{Connection}
 use Rattle.connection.specs.Record.{empty, Sound}
 use Rattle.connection.specs.Record as connection
 use Rattle.connection.proofs.Sides.{empty-means}
-use Rattle.table.specs.Slots.{AllSound, inSlot, meaning, Reached, emptied, after-event}
+use Rattle.table.specs.Slots.{AllSound, in-slot, meaning, Reached, emptied, after-event}
 
 -- what stands for a missing element is not asked where none is missing
 pub getD-within : {A : Type 0} (e : A) (l : List A) (i : ℕ) (d : A) → i < length l → getD l i d ≡ getD l i e
@@ -49,8 +49,8 @@ module _ (t : List Connection) (slot : ℕ) (e : Event) where
   on-outside o = rw o
 
   on-inside : slot < slots → slot < length t
-      → on (meaning t) slot e ≡ within (set (meaning t) slot) (inSlot (connection.meaning (getD t slot empty)) e)
-  unfolding on outside inSlot refuse
+      → on (meaning t) slot e ≡ within (set (meaning t) slot) (in-slot (connection.meaning (getD t slot empty)) e)
+  unfolding on outside in-slot refuse
   on-inside small short =
       let c = connection.meaning (getD t slot empty) in
       rw (lt-leb slots slot small, long t, lt-leb (length t) slot short, at-means t slot)
@@ -70,12 +70,12 @@ module _ (t : List Connection) (slot : ℕ) (e : Event) where
     past-end far = outside-refuses (rw (long t, le-leb (length t) slot far) (or-true (leb slots slot)))
 
     pub stored : slot < slots → slot < length t → (a : Answer) (y : Connection)
-        → Meets Sound connection.meaning (getD t slot empty) (inSlot (connection.meaning (getD t slot empty)) e) a y
+        → Meets Sound connection.meaning (getD t slot empty) (in-slot (connection.meaning (getD t slot empty)) e) a y
         → Meets AllSound meaning t (on (meaning t) slot e) a (set t slot y)
     unfolding meaning
     stored small short a y m =
         rw (on-inside small short)
-        (part (set t slot) (set (meaning t) slot) t (getD t slot empty) (inSlot (connection.meaning (getD t slot empty)) e) a y
+        (part (set t slot) (set (meaning t) slot) t (getD t slot empty) (in-slot (connection.meaning (getD t slot empty)) e) a y
         (set-getD t slot empty) (λ q. map-set connection.meaning t slot q) m (all-set Sound empty t slot y all (m .sound)))
 
 -- ---- a table that is emptied

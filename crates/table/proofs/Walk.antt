@@ -7,7 +7,7 @@
 --     while-test   the test of a `while`: a premise for the rest of the turn, and one for what stands after the loop
 --     frees-all    all locals are freed, that stand from entry k on with the last one first: of each, from the result on, `full` with
 --                  its value or `bare`, which those are that are not said
---     envOf        a function's locals at the blocks ls, as the goal of a walk has them
+--     env-of        a function's locals at the blocks ls, as the goal of a walk has them
 --     R, conn-val  a connection's type and its value, as the machine has them
 --     conn-typed   that value is of that type.        conn-owned   what a connection owns is had for nothing
 --     bytes        how many bytes a connection takes in memory, whatever its rooms
@@ -59,10 +59,10 @@ bytes = mem R .size
 pub in-bytes : (i n : ℕ) → i < n → n * bytes < 2 ^ 63 → i * bytes < 2 ^ 64
 in-bytes i n l room = omega (arith, mul-le-mul-right bytes (le-of-lt l))
 
-abbrev pub envOf : List Local → List ℕ → List (Ty × ℕ)
-envOf [] ls = []
-envOf (local τ h ∷ ts) [] = []
-envOf (local τ h ∷ ts) (l ∷ ls) = (τ, l) ∷ envOf ts ls
+abbrev pub env-of : List Local → List ℕ → List (Ty × ℕ)
+env-of [] ls = []
+env-of (local τ h ∷ ts) [] = []
+env-of (local τ h ∷ ts) (l ∷ ls) = (τ, l) ∷ env-of ts ls
 
 -- the positions from which the locals of E are taken, one after another: each local's cell, and then that it dies, which has come to stand there
 abbrev taken : ℕ → List (Ty × ℕ) → List ℕ

@@ -22,8 +22,8 @@ abbrev pub AllSound : List Connection → Type 0
 AllSound t = (slot : ℕ) → Sound (getD t slot empty)
 
 -- an event on the record of a slot: 3, then the connection's own
-unfoldable pub inSlot : rule.Connection → Event → Outcome rule.Connection
-inSlot c e = refuse (is-start e && not (unused c)) 3 (step c e)
+unfoldable pub in-slot : rule.Connection → Event → Outcome rule.Connection
+in-slot c e = refuse (is-start e && not (unused c)) 3 (step c e)
 
 -- "a call of its own first empties every slot lent": the tables that it and any events after it leave
 pub data Reached : List Connection → Type 0 where

@@ -3,9 +3,9 @@ ghost use mathlib.Core.Path.{_≡_};
 ghost use lib.ListN.{length, replicate};
 ghost use Rattle.rules.specs.Numbers.{slots};
 ghost use Rattle.rules.specs.Promise.{Meets};
-ghost use Rattle.rules.specs.Table.{on as onOf};
-ghost use Rattle.connection.specs.Record.{empty as emptyOf, meaning as meaningOf, Sound};
-ghost use Rattle.table.specs.Slots.{AllSound, inSlot, meaning};
+ghost use Rattle.rules.specs.Table.{on as on-of};
+ghost use Rattle.connection.specs.Record.{empty as empty-of, meaning as meaning-of, Sound};
+ghost use Rattle.table.specs.Slots.{AllSound, in-slot, meaning};
 use connection::Connection;
 use connection::Stepped;
 use rules::Answer;
@@ -15,7 +15,7 @@ use rules::SLOTS;
 // An event on the record of a slot: no start of one in use.
 fn in_slot(c: Connection, event: Event) -> Stepped
     requires { ⌜ Sound c ⌝ }
-    ensures { λ r. ⌜ Meets Sound meaningOf c (inSlot (meaningOf c) event) (r .answer) (r .record) ⌝ }
+    ensures { λ r. ⌜ Meets Sound meaning-of c (in-slot (meaning-of c) event) (r .answer) (r .record) ⌝ }
 {
     let sender = c.sender;
     let room = sender.room;
@@ -38,7 +38,7 @@ fn in_slot(c: Connection, event: Event) -> Stepped
 // An event on a slot of a lent table.
 pub fn event(table: &mut [Connection], slot: usize, event: Event) -> Answer
     requires { ⌜ AllSound (now table) ⌝ }
-    ensures { λ r. ⌜ Meets AllSound meaning (now (table .entry)) (onOf (meaning (now (table .entry))) slot event) r (now (table .exit)) ⌝ }
+    ensures { λ r. ⌜ Meets AllSound meaning (now (table .entry)) (on-of (meaning (now (table .entry))) slot event) r (now (table .exit)) ⌝ }
 {
     if slot >= SLOTS {
         return Answer::Refused(1);
@@ -53,7 +53,7 @@ pub fn event(table: &mut [Connection], slot: usize, event: Event) -> Answer
 
 // Every slot lent is emptied.
 pub fn empty_all(table: &mut [Connection])
-    ensures { λ _. ⌜ now (table .exit) ≡ replicate (length (now (table .entry))) emptyOf ⌝ }
+    ensures { λ _. ⌜ now (table .exit) ≡ replicate (length (now (table .entry))) empty-of ⌝ }
 {
     let c = Connection::empty();
     let mut i = 0;
@@ -77,7 +77,7 @@ pub struct Answered {
 impl Table {
     // Every slot is empty.
     pub fn empty() -> Table
-        ensures { λ r. ⌜ r .slots ≡ replicate slots emptyOf ⌝ }
+        ensures { λ r. ⌜ r .slots ≡ replicate slots empty-of ⌝ }
     {
         let c = Connection::empty();
         Table { slots: [c; SLOTS] }
@@ -86,7 +86,7 @@ impl Table {
     // An event on a slot.
     pub fn on(self, slot: usize, event: Event) -> Answered
         requires { ⌜ AllSound (self .slots) ⌝ }
-        ensures { λ r. ⌜ Meets AllSound meaning (self .slots) (onOf (meaning (self .slots)) slot event) (r .answer) (r .table .slots) ⌝ }
+        ensures { λ r. ⌜ Meets AllSound meaning (self .slots) (on-of (meaning (self .slots)) slot event) (r .answer) (r .table .slots) ⌝ }
     {
         if SLOTS <= slot {
             return Answered {

@@ -5,21 +5,21 @@ use Prim.Native.Nat.{ℕ, _-_, _/_, _%_, _^_, _<_}
 use lib.Dec.{ltb, leb, eqb}
 
 -- bit i of n: the digit that is worth 2^i
-unfoldable pub bitAt : ℕ → ℕ → Bool
-bitAt n i = eqb (n / 2 ^ i % 2) 1
+unfoldable pub bit-at : ℕ → ℕ → Bool
+bit-at n i = eqb (n / 2 ^ i % 2) 1
 
 -- the bits of the word w are those of f
 abbrev pub Bits : ℕ → (ℕ → Bool) → Type 0
-Bits w f = (i : ℕ) → i < 64 → bitAt w i ≡ f i
+Bits w f = (i : ℕ) → i < 64 → bit-at w i ≡ f i
 
 -- from a up to, and not with, b
-abbrev pub inRange : ℕ → ℕ → ℕ → Bool
-inRange a b i = leb a i && ltb i b
+abbrev pub in-range : ℕ → ℕ → ℕ → Bool
+in-range a b i = leb a i && ltb i b
 
 -- bit p of two words, the second behind the first
-abbrev pub bitOfTwo : ℕ → ℕ → ℕ → Bool
-bitOfTwo low high p = cond (ltb p 64) (bitAt low p) (bitAt high (p - 64))
+abbrev pub bit-of-two : ℕ → ℕ → ℕ → Bool
+bit-of-two low high p = cond (ltb p 64) (bit-at low p) (bit-at high (p - 64))
 
 -- set in v and clear in w
-abbrev pub onlyIn : ℕ → ℕ → ℕ → Bool
-onlyIn v w i = bitAt v i && not (bitAt w i)
+abbrev pub only-in : ℕ → ℕ → ℕ → Bool
+only-in v w i = bit-at v i && not (bit-at w i)

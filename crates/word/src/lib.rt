@@ -4,25 +4,25 @@ ghost use mathlib.Core.Bool.{not, _&&_, _||_};
 ghost use Prim.Native.Nat.{_+_, _%_, _<_};
 ghost use lib.Dec.{eqb, ltb};
 ghost use Rattle.lists.specs.Index.{First, tally};
-ghost use Rattle.word.specs.Word.{bitAt, Bits, inRange, bitOfTwo, onlyIn};
+ghost use Rattle.word.specs.Word.{bit-at, Bits, in-range, bit-of-two, only-in};
 
 // Whether bit i is set.
 pub fn test(w: u64, i: u32) -> bool
-    ensures { λ r. ⌜ r ≡ bitAt w (i % 64) ⌝ }
+    ensures { λ r. ⌜ r ≡ bit-at w (i % 64) ⌝ }
 {
     (w >> (i % 64)) % 2 == 1
 }
 
 // The word with bit i set.
 pub fn set(w: u64, i: u32) -> u64
-    ensures { λ r. ⌜ Bits r (λ k. bitAt w k || eqb k (i % 64)) ⌝ }
+    ensures { λ r. ⌜ Bits r (λ k. bit-at w k || eqb k (i % 64)) ⌝ }
 {
     w | (1u64 << (i % 64))
 }
 
 // The word with bit i clear.
 pub fn clear(w: u64, i: u32) -> u64
-    ensures { λ r. ⌜ Bits r (λ k. bitAt w k && not (eqb k (i % 64))) ⌝ }
+    ensures { λ r. ⌜ Bits r (λ k. bit-at w k && not (eqb k (i % 64))) ⌝ }
 {
     w & !(1u64 << (i % 64))
 }
@@ -39,21 +39,21 @@ pub fn low(k: u32) -> u64
 
 // The word whose bits from a up to, and not with, b are set, and no others.
 pub fn range(a: u32, b: u32) -> u64
-    ensures { λ r. ⌜ Bits r (inRange a b) ⌝ }
+    ensures { λ r. ⌜ Bits r (in-range a b) ⌝ }
 {
     without(low(b), low(a))
 }
 
 // The bits of v that w has not.
 pub fn without(v: u64, w: u64) -> u64
-    ensures { λ r. ⌜ Bits r (onlyIn v w) ⌝ }
+    ensures { λ r. ⌜ Bits r (only-in v w) ⌝ }
 {
     v & !w
 }
 
 // The 64 bits of two words from bit s of the first on.
 pub fn across(low: u64, high: u64, s: u32) -> u64
-    ensures { λ r. ⌜ Bits r (λ i. bitOfTwo low high (s % 64 + i)) ⌝ }
+    ensures { λ r. ⌜ Bits r (λ i. bit-of-two low high (s % 64 + i)) ⌝ }
 {
     let by = s % 64;
     if by == 0 {
@@ -64,14 +64,14 @@ pub fn across(low: u64, high: u64, s: u32) -> u64
 
 // The index of the lowest set bit: 64 where none is set.
 pub fn lowest(w: u64) -> u32
-    ensures { λ r. ⌜ First (bitAt w) 64 r ⌝ }
+    ensures { λ r. ⌜ First (bit-at w) 64 r ⌝ }
 {
     u64::trailing_zeros(w)
 }
 
 // How many bits of v are set that are clear in w.
 pub fn newly(v: u64, w: u64) -> u32
-    ensures { λ r. ⌜ r ≡ tally 64 (onlyIn v w) ⌝ }
+    ensures { λ r. ⌜ r ≡ tally 64 (only-in v w) ⌝ }
 {
     u64::count_ones(v & !w)
 }

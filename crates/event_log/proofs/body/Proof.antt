@@ -4,7 +4,7 @@ use mathlib.Core.Path.{_≡_, sym, ap, _∙_}
 use Prim.Native.Nat.{_+_, _≤_}
 use native.Mathlib.Omega.{arith}
 use lib.ListN.{length}
-use Rattle.rules.specs.Log.{read as readOf, body as bodyOf}
+use Rattle.rules.specs.Log.{read as read-of, body as body-of}
 use Rattle.rules.specs.declared.Read.the-variants.{Record}
 use Rattle.rules.proofs.Apart.{reads-apart}
 use Rattle.rules.proofs.RoundTrip.{read-kind}
@@ -13,7 +13,7 @@ use Rattle.event_log.proofs.body.Tie as tie
 
 -- the record that was read is the log's
 found : (c : tie.After-known-told) → let a = c .before .before .before .before .before .args in let r = c .before .next .given .0 in
-    readOf (a .log .now) (a .place) ≡ Record (r .0) (r .1 .0) (r .1 .1 .0) (r .1 .1 .1 .0)
+    read-of (a .log .now) (a .place) ≡ Record (r .0) (r .1 .0) (r .1 .1 .0) (r .1 .1 .1 .0)
 found c = sym (reads-apart _ _ (c .before .before .before .read .ensures)) ∙ c .before .next .given .1
 
 within : (c : tie.After-known-told) → let a = c .before .before .before .before .before .args in let next = c .before .next .given .0 .1 .1 .1 .0 in
@@ -49,14 +49,14 @@ slice-aggregate-result : tie.Need-slice-aggregate-result
 slice-aggregate-result c = search needs
 
 returns : tie.Need-returns
-unfolding bodyOf
-returns c = let a = c .before .before .before .before .before .before .args in sym (ap (bodyOf (a .log .now) (a .place)) (found (c .before)))
+unfolding body-of
+returns c = let a = c .before .before .before .before .before .before .args in sym (ap (body-of (a .log .now) (a .place)) (found (c .before)))
 
 returns-2 : tie.Need-returns-2
-unfolding bodyOf
+unfolding body-of
 returns-2 c =
     let a = c .before .before .before .before .before .args in
-    sym (ap (bodyOf (a .log .now) (a .place)) (sym (reads-apart _ _ (c .before .before .before .read .ensures)) ∙ c .before .enum-told .given .1))
+    sym (ap (body-of (a .log .now) (a .place)) (sym (reads-apart _ _ (c .before .before .before .read .ensures)) ∙ c .before .enum-told .given .1))
 
 pub body-spec : {M : Type 1} → statement M
 body-spec =

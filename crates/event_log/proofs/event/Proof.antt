@@ -6,7 +6,7 @@ use Prim.Native.Nat.{ℕ, suc, _≤_, _<_}
 use native.Mathlib.Nat.{le-antisymm}
 use native.Mathlib.Omega.{arith}
 use lib.Dec.{leb, ltb}
-use Rattle.rules.specs.Log.{layouts, widths, eventOf}
+use Rattle.rules.specs.Log.{layouts, widths, event-of}
 use Rattle.lists.proofs.Joined.{and-true-each}
 use Rattle.event_log.proofs.event.Statement.{statement}
 use Rattle.event_log.proofs.event.Tie as tie
@@ -119,35 +119,35 @@ unfolding widths layouts
 cast-t71 c = omega (arith, rw (c .match .keys7) at (c .before .pre .1 0))
 
 returns : tie.Need-returns
-unfolding eventOf
+unfolding event-of
 returns c = rw (c .match .keys1)
 
 returns-2 : tie.Need-returns-2
-unfolding eventOf
+unfolding event-of
 returns-2 c = rw (c .match .keys2)
 
 returns-3 : tie.Need-returns-3
-unfolding eventOf
+unfolding event-of
 returns-3 c = rw (c .match .keys3)
 
 returns-4 : tie.Need-returns-4
-unfolding eventOf
+unfolding event-of
 returns-4 c = rw (c .match .keys4)
 
 returns-5 : tie.Need-returns-5
-unfolding eventOf
+unfolding event-of
 returns-5 c = rw (c .match .keys5)
 
 returns-6 : tie.Need-returns-6
-unfolding eventOf
+unfolding event-of
 returns-6 c = rw (c .match .keys6)
 
 returns-7 : tie.Need-returns-7
-unfolding eventOf
+unfolding event-of
 returns-7 c = rw (c .match .keys7)
 
 returns-8 : tie.Need-returns-8
-unfolding eventOf layouts
+unfolding event-of layouts
 returns-8 c =
     let k = c .before .args .kind in
     let m = c .match .rest in

@@ -8,7 +8,7 @@ use native.Mathlib.Omega.{arith}
 use lib.ListN.{length, getD, take, length-set}
 use lib.Seq.{sets, length-sets}
 use Rattle.lists.specs.Lists.{sum}
-use Rattle.rules.specs.Paper.{kindOf, fieldsOf}
+use Rattle.rules.specs.Paper.{kind-of, fields-of}
 use Rattle.rules.specs.Log.{widths, whole, spell, spell-all, encode}
 use Rattle.rules.specs.declared.Event.{Event}
 use Rattle.rules.proofs.Fields.{length-spell-all}
@@ -20,12 +20,12 @@ use Rattle.event_log.proofs.fill.Statement.{statement}
 use Rattle.event_log.proofs.fill.Tie as tie
 
 -- all bytes of the head and of the fields
-filled : (b : List ℕ) (slot : ℕ) (e : Event) (k : ℕ) (v : List ℕ) → k ≡ kindOf e → v ≡ padded (fieldsOf e)
+filled : (b : List ℕ) (slot : ℕ) (e : Event) (k : ℕ) (v : List ℕ) → k ≡ kind-of e → v ≡ padded (fields-of e)
     → sets (sets b 0 (0x4D ∷ 0x52 ∷ k ∷ slot ∷ [])) 4 (spell-all (take 4 (widths k)) v) ≡ sets b 0 (encode slot e)
 unfolding encode
 filled b slot e k v p q =
     rw (p, q, take-widths, fields-padded e .1)
-    (sets-more (0x4D ∷ 0x52 ∷ kindOf e ∷ slot ∷ []) (spell-all (widths (kindOf e)) (fieldsOf e)) b 0 4 refl)
+    (sets-more (0x4D ∷ 0x52 ∷ kind-of e ∷ slot ∷ []) (spell-all (widths (kind-of e)) (fields-of e)) b 0 4 refl)
 
 -- one field more
 one-more : (b v ws : List ℕ) (i : ℕ)

@@ -1,7 +1,7 @@
 -- `event_log::kind` meets its contract, arm by arm. Assumes nothing.
 use borrow.Author.Needs.{needs}
 use mathlib.Core.Path.{sym, ap}
-use Rattle.rules.specs.Paper.{kindOf}
+use Rattle.rules.specs.Paper.{kind-of}
 use Rattle.event_log.proofs.kind.Statement.{statement}
 use Rattle.event_log.proofs.kind.Tie as tie
 
@@ -30,36 +30,36 @@ enum-told-8 : tie.Need-enum-told-8
 enum-told-8 c = search needs
 
 returns : tie.Need-returns
-unfolding kindOf
-returns c = sym (ap kindOf (c .enum-told .given .1))
+unfolding kind-of
+returns c = sym (ap kind-of (c .enum-told .given .1))
 
 returns-2 : tie.Need-returns-2
-unfolding kindOf
-returns-2 c = sym (ap kindOf (c .enum-told2 .given .1))
+unfolding kind-of
+returns-2 c = sym (ap kind-of (c .enum-told2 .given .1))
 
 returns-3 : tie.Need-returns-3
-unfolding kindOf
-returns-3 c = sym (ap kindOf (c .enum-told3 .given .1))
+unfolding kind-of
+returns-3 c = sym (ap kind-of (c .enum-told3 .given .1))
 
 returns-4 : tie.Need-returns-4
-unfolding kindOf
-returns-4 c = sym (ap kindOf (c .enum-told4 .given .1))
+unfolding kind-of
+returns-4 c = sym (ap kind-of (c .enum-told4 .given .1))
 
 returns-5 : tie.Need-returns-5
-unfolding kindOf
-returns-5 c = sym (ap kindOf (c .enum-told5 .given .1))
+unfolding kind-of
+returns-5 c = sym (ap kind-of (c .enum-told5 .given .1))
 
 returns-6 : tie.Need-returns-6
-unfolding kindOf
-returns-6 c = sym (ap kindOf (c .enum-told6 .given .1))
+unfolding kind-of
+returns-6 c = sym (ap kind-of (c .enum-told6 .given .1))
 
 returns-7 : tie.Need-returns-7
-unfolding kindOf
-returns-7 c = sym (ap kindOf (c .enum-told7 .given .1))
+unfolding kind-of
+returns-7 c = sym (ap kind-of (c .enum-told7 .given .1))
 
 returns-8 : tie.Need-returns-8
-unfolding kindOf
-returns-8 c = sym (ap kindOf (c .enum-told8 .given .1))
+unfolding kind-of
+returns-8 c = sym (ap kind-of (c .enum-told8 .given .1))
 
 pub kind-spec : {M : Type 1} → statement M
 kind-spec =

@@ -8,7 +8,7 @@ use native.Mathlib.Omega.{arith}
 use lib.ListN.{length, take, drop, length-drop}
 use lib.Seq.{take-all}
 use Rattle.rules.specs.Paper.{read-line}
-use Rattle.rules.specs.Log.{read-left, read as readOf}
+use Rattle.rules.specs.Log.{read-left, read as read-of}
 use Rattle.event_log.proofs.read.Statement.{statement}
 use Rattle.event_log.proofs.read.Tie as tie
 
@@ -16,11 +16,11 @@ rest : (log : List ℕ) (place : ℕ) → take (length log - place) (drop place 
 rest log place = take-all (length log - place) (drop place log) (omega (arith, length-drop place log))
 
 returns : tie.Need-returns
-unfolding readOf
+unfolding read-of
 returns c = simp (lt-ltb _ _ (c .if1 .taken))
 
 returns-2 : tie.Need-returns-2
-unfolding readOf
+unfolding read-of
 returns-2 c = simp (le-ltb _ _ (c .before .if1 .left), le-leb _ _ (c .if2 .taken))
 
 sub-read-first : tie.Need-sub-read-first
@@ -39,7 +39,7 @@ read-first-requires c κs =
     omega (arith, ap length (rest log (a .place)), length-drop (a .place) log, c .before .before .if1 .left, c .before .if2 .left)
 
 returns-3 : tie.Need-returns-3
-unfolding readOf
+unfolding read-of
 returns-3 c =
     let a = c .before .before .before .before .before .args in
     simp (le-ltb _ _ (c .before .before .before .if1 .left), lt-leb _ _ (c .before .before .if2 .left))

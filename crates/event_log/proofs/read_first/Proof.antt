@@ -8,7 +8,7 @@ use Prim.Native.Nat.{ℕ, _+_}
 use native.Mathlib.Omega.{arith}
 use lib.Dec.{ltb}
 use lib.ListN.{length, getD, drop}
-use Rattle.rules.specs.Log.{layouts, widths, kind-ok, whole, number-all, eventOf, read-left}
+use Rattle.rules.specs.Log.{layouts, widths, kind-ok, whole, number-all, event-of, read-left}
 use Rattle.rules.specs.declared.Event.{Event}
 use Rattle.rules.specs.declared.Read.{Read}
 use Rattle.rules.specs.declared.Read.the-variants.{Record, Nothing}
@@ -18,7 +18,7 @@ use Rattle.event_log.proofs.read_first.Tie as tie
 
 -- the record of a kind that the bytes r begin with
 abbrev first : List ℕ → ℕ → ℕ → Read
-first r k place = Record (getD r 3 0) (eventOf k (number-all (widths k) (drop 4 r))) k (place + whole k)
+first r k place = Record (getD r 3 0) (event-of k (number-all (widths k) (drop 4 r))) k (place + whole k)
 
 -- the bytes have the mark
 marked : (c : tie.Else3) → let a = c .before .before .before .before .before .before .args in let r = a .r .now in let k = getD r 2 0 in
@@ -91,7 +91,7 @@ returns-7 c =
     let k = getD r 2 0 in
     let l = number-all (widths k) (drop 4 r) in
     let room = le-ltb (length r) (whole k) (omega (arith, c .before .before .before .if6 .left, c .before .before .before .before .whole .ensures)) in
-    let e : c .event .result ≡ eventOf k l = c .event .ensures ∙ ap (eventOf k) (c .before .fields .ensures .0) ∙ event-padded k l in
+    let e : c .event .result ≡ event-of k l = c .event .ensures ∙ ap (event-of k) (c .before .fields .ensures .0) ∙ event-padded k l in
     ap₂ (λ (x : Event) (n : ℕ). Record (getD r 3 0) x k (a .place + n)) e (c .before .before .before .before .whole .ensures)
     ∙ sym (passed (c .before .before .before .before .before) .1 ∙ rw room)
 

@@ -2,7 +2,7 @@
 use borrow.Author.Needs.{needs}
 use mathlib.Core.Path.{sym, ap}
 use Rattle.lists.specs.Index.{table}
-use Rattle.rules.specs.Paper.{fieldsOf}
+use Rattle.rules.specs.Paper.{fields-of}
 use Rattle.event_log.specs.Parts.{padded}
 use Rattle.event_log.proofs.values.Statement.{statement}
 use Rattle.event_log.proofs.values.Tie as tie
@@ -74,36 +74,36 @@ enum-told-2 : tie.Need-enum-told-2
 enum-told-2 c = search needs
 
 returns : tie.Need-returns
-unfolding padded table fieldsOf
-returns c = sym (ap padded (ap fieldsOf (c .before .before .before .event .given .1)))
+unfolding padded table fields-of
+returns c = sym (ap padded (ap fields-of (c .before .before .before .event .given .1)))
 
 returns-2 : tie.Need-returns-2
-unfolding padded table fieldsOf
-returns-2 c = sym (ap padded (ap fieldsOf (c .enum-told .given .1)))
+unfolding padded table fields-of
+returns-2 c = sym (ap padded (ap fields-of (c .enum-told .given .1)))
 
 returns-3 : tie.Need-returns-3
-unfolding padded table fieldsOf
-returns-3 c = sym (ap padded (ap fieldsOf (c .before .event2 .given .1)))
+unfolding padded table fields-of
+returns-3 c = sym (ap padded (ap fields-of (c .before .event2 .given .1)))
 
 returns-4 : tie.Need-returns-4
-unfolding padded table fieldsOf
-returns-4 c = sym (ap padded (ap fieldsOf (c .before .before .before .before .before .event3 .given .1)))
+unfolding padded table fields-of
+returns-4 c = sym (ap padded (ap fields-of (c .before .before .before .before .before .event3 .given .1)))
 
 returns-5 : tie.Need-returns-5
-unfolding padded table fieldsOf
-returns-5 c = sym (ap padded (ap fieldsOf (c .before .before .before .event4 .given .1)))
+unfolding padded table fields-of
+returns-5 c = sym (ap padded (ap fields-of (c .before .before .before .event4 .given .1)))
 
 returns-6 : tie.Need-returns-6
-unfolding padded table fieldsOf
-returns-6 c = sym (ap padded (ap fieldsOf (c .before .before .event5 .given .1)))
+unfolding padded table fields-of
+returns-6 c = sym (ap padded (ap fields-of (c .before .before .event5 .given .1)))
 
 returns-7 : tie.Need-returns-7
-unfolding padded table fieldsOf
-returns-7 c = sym (ap padded (ap fieldsOf (c .before .before .event6 .given .1)))
+unfolding padded table fields-of
+returns-7 c = sym (ap padded (ap fields-of (c .before .before .event6 .given .1)))
 
 returns-8 : tie.Need-returns-8
-unfolding padded table fieldsOf
-returns-8 c = sym (ap padded (ap fieldsOf (c .enum-told2 .given .1)))
+unfolding padded table fields-of
+returns-8 c = sym (ap padded (ap fields-of (c .enum-told2 .given .1)))
 
 pub values-spec : {M : Type 1} → statement M
 values-spec =

@@ -1,6 +1,6 @@
 -- `code` meets its contract: each arm knows its verdict. Assumes nothing.
 use mathlib.Core.Path.{sym, ap}
-use Rattle.rules.specs.Paper.{code as codeOf}
+use Rattle.rules.specs.Paper.{code as code-of}
 use borrow.Author.Needs.{needs}
 use Rattle.paper.proofs.code.Statement.{statement}
 use Rattle.paper.proofs.code.Tie as tie
@@ -24,28 +24,28 @@ enum-told-6 : tie.Need-enum-told-6
 enum-told-6 c = search needs
 
 returns : tie.Need-returns
-unfolding codeOf
-returns c = sym (ap codeOf (c .enum-told .given .1))
+unfolding code-of
+returns c = sym (ap code-of (c .enum-told .given .1))
 
 returns-2 : tie.Need-returns-2
-unfolding codeOf
-returns-2 c = sym (ap codeOf (c .enum-told2 .given .1))
+unfolding code-of
+returns-2 c = sym (ap code-of (c .enum-told2 .given .1))
 
 returns-3 : tie.Need-returns-3
-unfolding codeOf
-returns-3 c = sym (ap codeOf (c .enum-told3 .given .1))
+unfolding code-of
+returns-3 c = sym (ap code-of (c .enum-told3 .given .1))
 
 returns-4 : tie.Need-returns-4
-unfolding codeOf
-returns-4 c = sym (ap codeOf (c .enum-told4 .given .1))
+unfolding code-of
+returns-4 c = sym (ap code-of (c .enum-told4 .given .1))
 
 returns-5 : tie.Need-returns-5
-unfolding codeOf
-returns-5 c = sym (ap codeOf (c .enum-told5 .given .1))
+unfolding code-of
+returns-5 c = sym (ap code-of (c .enum-told5 .given .1))
 
 returns-6 : tie.Need-returns-6
-unfolding codeOf
-returns-6 c = sym (ap codeOf (c .enum-told6 .given .1))
+unfolding code-of
+returns-6 c = sym (ap code-of (c .enum-told6 .given .1))
 
 pub code-spec : {M : Type 1} → statement M
 code-spec =

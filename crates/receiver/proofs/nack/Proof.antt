@@ -1,6 +1,6 @@
 -- `nack` meets its contract, value by value. Assumes nothing.
 use borrow.Author.Needs.{needs}
-use Rattle.rules.specs.Receiver.{nackOf}
+use Rattle.rules.specs.Receiver.{nack-of}
 use Rattle.receiver.proofs.nack.Statement.{statement}
 use Rattle.receiver.proofs.nack.Tie as tie
 
@@ -11,7 +11,7 @@ flag-requires : tie.Need-flag-requires
 flag-requires c κs = search needs
 
 returns : tie.Need-returns
-unfolding nackOf
+unfolding nack-of
 returns c =
     let a = c .before .before .before .args .a in
     let reason = c .before .reason .ensures in

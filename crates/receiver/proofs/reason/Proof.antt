@@ -1,7 +1,7 @@
 -- `reason` meets its contract: each arm knows its verdict. Assumes nothing.
 use mathlib.Core.Path.{sym, ap}
 use borrow.Author.Needs.{needs}
-use Rattle.rules.specs.Receiver.{reasonOf}
+use Rattle.rules.specs.Receiver.{reason-of}
 use Rattle.receiver.proofs.reason.Statement.{statement}
 use Rattle.receiver.proofs.reason.Tie as tie
 
@@ -24,28 +24,28 @@ enum-told-6 : tie.Need-enum-told-6
 enum-told-6 c = search needs
 
 returns : tie.Need-returns
-unfolding reasonOf
-returns c = sym (ap reasonOf (c .enum-told .given .1))
+unfolding reason-of
+returns c = sym (ap reason-of (c .enum-told .given .1))
 
 returns-2 : tie.Need-returns-2
-unfolding reasonOf
-returns-2 c = sym (ap reasonOf (c .enum-told2 .given .1))
+unfolding reason-of
+returns-2 c = sym (ap reason-of (c .enum-told2 .given .1))
 
 returns-3 : tie.Need-returns-3
-unfolding reasonOf
-returns-3 c = sym (ap reasonOf (c .enum-told3 .given .1))
+unfolding reason-of
+returns-3 c = sym (ap reason-of (c .enum-told3 .given .1))
 
 returns-4 : tie.Need-returns-4
-unfolding reasonOf
-returns-4 c = sym (ap reasonOf (c .enum-told4 .given .1))
+unfolding reason-of
+returns-4 c = sym (ap reason-of (c .enum-told4 .given .1))
 
 returns-5 : tie.Need-returns-5
-unfolding reasonOf
-returns-5 c = sym (ap reasonOf (c .enum-told5 .given .1))
+unfolding reason-of
+returns-5 c = sym (ap reason-of (c .enum-told5 .given .1))
 
 returns-6 : tie.Need-returns-6
-unfolding reasonOf
-returns-6 c = sym (ap reasonOf (c .enum-told6 .given .1))
+unfolding reason-of
+returns-6 c = sym (ap reason-of (c .enum-told6 .given .1))
 
 pub reason-spec : {M : Type 1} → statement M
 reason-spec =

@@ -8,7 +8,7 @@ use Rattle.psn.specs.Psn.{turn, after, distance}
 use Rattle.psn.proofs.Circle.{after-after, distance-lt}
 use Rattle.word.proofs.Bits.{bit-or}
 use Rattle.rules.specs.Retire.{has-bit}
-use Rattle.retire.specs.Rows.{bitOfBlock, names}
+use Rattle.retire.specs.Rows.{bit-of-block, names}
 use Rattle.psn.proofs.Circle.{distance-on}
 use borrow.Author.Needs.{needs}
 use Rattle.retire.proofs.named.Statement.{statement}
@@ -46,7 +46,7 @@ returns c =
     bit-or (c .before .range .result) (c .placed .result) b
     ∙ ap₂ (λ (x y : Bool). x || y)
     (c .before .range .ensures b l ∙ ap (λ (t : Bool). t && ltb (at + b) (entry .args .upto)) (leb·zero (at + b)))
-    (c .placed .ensures b l ∙ ap (bitOfBlock (entry .args .block .bitmap)) d-is)
+    (c .placed .ensures b l ∙ ap (bit-of-block (entry .args .block .bitmap)) d-is)
 
 pub named-spec : {M : Type 1} → statement M
 named-spec =

@@ -2,10 +2,10 @@
 use Prim.Native.Nat.{ℕ, _+_, _-_, _*_, _%_, _≤_}
 use native.Mathlib.Omega.{arith}
 use lib.ListN.{length, getD}
-use Rattle.word.specs.Word.{bitAt, onlyIn}
+use Rattle.word.specs.Word.{bit-at, only-in}
 use Rattle.lists.proofs.Index.{tally-le}
 use Rattle.rules.specs.Numbers.{largest-room}
-use Rattle.retire.specs.Rows.{fresh, names, sizeAt}
+use Rattle.retire.specs.Rows.{fresh, names, size-at}
 use Rattle.retire.proofs.Words.{Upto, upto-none, upto-more, all-retired, weigh-le}
 use borrow.Author.Needs.{needs}
 use Rattle.retire.proofs.retire.Statement.{statement}
@@ -67,7 +67,7 @@ add-newly c =
       l .loop .inv .counted,
       tally-le (64 * l .loop .j) (fresh (entry .args .retired .now) f),
       c .before .one .ensures .counted,
-      tally-le 64 (onlyIn named (getD (l .loop .retired) (l .loop .j) 0)),
+      tally-le 64 (only-in named (getD (l .loop .retired) (l .loop .j) 0)),
     )
 
 mul-after : tie.Need-mul-after Inv-loop μ-loop
@@ -87,16 +87,16 @@ add-sum c =
     let first = entry .args .first .0 in
     let f = names first (entry .args .upto) (entry .args .block) in
     let read = c .before .before .before .before .before .before .before .before .before in
-    let small : (a p : ℕ) → sizeAt sizes a p ≤ 65535 = λ a p. omega (arith, read .shared-slice-known .given ((a + p) % largest-room)) in
+    let small : (a p : ℕ) → size-at sizes a p ≤ 65535 = λ a p. omega (arith, read .shared-slice-known .given ((a + p) % largest-room)) in
     let start = c .before .after .result .0 in
     omega (
       arith,
       entry .pre .1,
       l .loop .inv .within,
       l .loop .inv .weighed,
-      weigh-le (64 * l .loop .j) 65535 (fresh (entry .args .retired .now) f) (sizeAt sizes first) (small first),
+      weigh-le (64 * l .loop .j) 65535 (fresh (entry .args .retired .now) f) (size-at sizes first) (small first),
       c .bytes .ensures,
-      weigh-le 64 65535 (bitAt (c .before .before .before .one .result .fresh)) (sizeAt sizes start) (small start),
+      weigh-le 64 65535 (bit-at (c .before .before .before .one .result .fresh)) (size-at sizes start) (small start),
     )
 
 add-j : tie.Need-add-j Inv-loop μ-loop

@@ -5,7 +5,7 @@ use mathlib.Core.Logic.{⊎-elim}
 use Prim.Native.Nat.{ℕ, _+_, _-_, _%_}
 use native.Mathlib.Omega.{arith}
 use Rattle.psn.specs.Psn.{turn, half}
-use Rattle.word.specs.Word.{inRange}
+use Rattle.word.specs.Word.{in-range}
 use Rattle.retire.specs.Rows.{ahead}
 use Rattle.retire.proofs.Naming.{unsent-near, unsent-far, unsent-none, turned-in}
 use borrow.Author.Needs.{needs}
@@ -31,7 +31,7 @@ returns-2 c =
     let n = entry .args .n in
     let at = entry .args .o % turn in
     let from-is : c .before .if3 .from ≡ n - at = ⊎-elim (λ w. w .1) (λ w. w .1 ∙ omega arith) (c .before .if3 .came) in
-    c .range .ensures j l ∙ ap (λ (a : ℕ). inRange a (half - at) j) from-is ∙ unsent-near at n j l (c .before .before .if2 .taken)
+    c .range .ensures j l ∙ ap (λ (a : ℕ). in-range a (half - at) j) from-is ∙ unsent-near at n j l (c .before .before .if2 .taken)
     ∙ ap (ahead n) (turned-in (entry .args .o) j)
 
 sub-range-2 : tie.Need-sub-range-2

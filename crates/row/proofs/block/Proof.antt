@@ -1,7 +1,7 @@
 -- `block` meets its contract: the 64 bits lie in two words. Assumes nothing.
 use mathlib.Core.Path.{sym, ap₂, _∙_}
 use Prim.Native.Nat.{ℕ, _+_, _%_}
-use Rattle.word.specs.Word.{bitOfTwo}
+use Rattle.word.specs.Word.{bit-of-two}
 use Rattle.row.proofs.Rows.{at-two}
 use borrow.Author.Needs.{needs}
 use Rattle.row.proofs.block.Statement.{statement}
@@ -27,7 +27,7 @@ returns c =
     λ i h.
     let entry = c .before .before .before .before in
     let p = entry .args .p in
-    c .across .ensures i h ∙ ap₂ (λ (v w : ℕ). bitOfTwo v w (p % 64 + i)) (c .before .before .word-at .ensures) (c .before .word-at2 .ensures)
+    c .across .ensures i h ∙ ap₂ (λ (v w : ℕ). bit-of-two v w (p % 64 + i)) (c .before .before .word-at .ensures) (c .before .word-at2 .ensures)
     ∙ sym (at-two (entry .args .ws .now) p i h)
 
 pub block-spec : {M : Type 1} → statement M

@@ -7,16 +7,16 @@ use native.Mathlib.Omega.{arith}
 use native.Mathlib.Decide.{ℕ-discrete}
 use lib.ListN.{length-set}
 use borrow.Author.Tests.{ne-eqb}
-use Rattle.row.specs.Row.{at, bits, withoutBit}
+use Rattle.row.specs.Row.{at, bits, without-bit}
 use Rattle.row.proofs.Rows.{at-past, row-put}
 use borrow.Author.Needs.{needs}
 use Rattle.row.proofs.clear.Statement.{statement}
 use Rattle.row.proofs.clear.Tie as tie
 
-outside : (ws : List ℕ) (p k : ℕ) → bits ws ≤ p → at ws k ≡ withoutBit ws p k
+outside : (ws : List ℕ) (p k : ℕ) → bits ws ≤ p → at ws k ≡ without-bit ws p k
 outside ws p k h = go (ℕ-discrete k p)
   where
-    go : Dec (k ≡ p) → at ws k ≡ withoutBit ws p k
+    go : Dec (k ≡ p) → at ws k ≡ without-bit ws p k
     go (yes e) = rw (at-past ws k (omega arith))
     go (no e) = rw (ne-eqb k p e) (sym (and-true (at ws k)))
 

@@ -3,7 +3,7 @@ use mathlib.Core.Path.{ap₂, _∙_}
 use mathlib.Core.Bool.{Bool, _&&_}
 use Prim.Native.Nat.{ℕ, suc, _+_, _-_, _*_}
 use native.Mathlib.Omega.{arith}
-use Rattle.word.specs.Word.{inRange}
+use Rattle.word.specs.Word.{in-range}
 use Rattle.word.proofs.Compare.{leb-same}
 use borrow.Author.Needs.{needs}
 use Rattle.row.proofs.range.Statement.{statement}
@@ -25,7 +25,7 @@ returns c =
     let a = entry .args .a in
     let b = entry .args .b in
     let m = 64 * entry .args .j in
-    c .range .ensures i h ∙ ap₂ (λ (x y : ℕ). inRange x y i) (c .before .before .from-word .ensures) (c .before .from-word2 .ensures)
+    c .range .ensures i h ∙ ap₂ (λ (x y : ℕ). in-range x y i) (c .before .before .from-word .ensures) (c .before .from-word2 .ensures)
     ∙ ap₂ (λ (x y : Bool). x && y) (leb-same (a - m) i a (m + i) (λ k. omega arith) (λ k. omega arith))
     (leb-same (suc i) (b - m) (suc (m + i)) b (λ k. omega arith) (λ k. omega arith))
 

@@ -5,13 +5,13 @@ use Prim.Native.Nat.{ℕ, _-_, _≤_, _<_}
 use native.Mathlib.Omega.{arith}
 use borrow.Author.Count.{below-none}
 use Rattle.lists.proofs.Index.{none-more, first-here, first-end}
-use Rattle.row.specs.Row.{isClear}
+use Rattle.row.specs.Row.{is-clear}
 use borrow.Author.Needs.{needs}
 use Rattle.row.proofs.run.Statement.{statement}
 use Rattle.row.proofs.run.Tie as tie
 
 abbrev Inv-loop : tie.InvT-loop
-Inv-loop ws n p₀ p = (p ≤ n) × ((k : ℕ) → k < p → isClear ws k ≡ false)
+Inv-loop ws n p₀ p = (p ≤ n) × ((k : ℕ) → k < p → is-clear ws k ≡ false)
 
 abbrev μ-loop : tie.MeasureT-loop
 μ-loop ws n p₀ p = n - p
@@ -27,7 +27,7 @@ returns c =
     let l = c .before .before .before in
     let entry = l .before .before in
     let clear = sym (ap not (c .before .test .ensures)) ∙ c .if1 .taken in
-    first-here (isClear (entry .args .ws .now)) (l .loop .p) (l .loop .inv .1) (entry .args .n) (omega arith) clear
+    first-here (is-clear (entry .args .ws .now)) (l .loop .p) (l .loop .inv .1) (entry .args .n) (omega arith) clear
 
 add-p : tie.Need-add-p Inv-loop μ-loop
 add-p c = search needs
@@ -40,12 +40,12 @@ loop-again c =
     let l = c .before .before .before in
     let entry = l .before .before in
     let set = sym (ap not (c .before .test .ensures)) ∙ c .if1 .left in
-    (omega arith, none-more (isClear (entry .args .ws .now)) (l .loop .p) (l .loop .inv .1) set)
+    (omega arith, none-more (is-clear (entry .args .ws .now)) (l .loop .p) (l .loop .inv .1) set)
 
 returns-2 : tie.Need-returns-2 Inv-loop μ-loop
 returns-2 c =
     let entry = c .before .before .before in
-    first-end (isClear (entry .args .ws .now)) (entry .args .n) (λ k h. c .before .loop .inv .1 k (omega arith)) (entry .args .n) refl
+    first-end (is-clear (entry .args .ws .now)) (entry .args .n) (λ k h. c .before .loop .inv .1 k (omega arith)) (entry .args .n) refl
 
 pub run-spec : {M : Type 1} → statement M
 run-spec =

@@ -8,7 +8,7 @@ use native.Mathlib.Decide.{decLt}
 use lib.ListN.{length, getD, set, length-set, List·getD-eq-default}
 use lib.Seq.{getD-set-same, getD-set-other}
 use borrow.Author.Count.{below-more, below-none}
-use Rattle.word.specs.Word.{bitAt}
+use Rattle.word.specs.Word.{bit-at}
 use Rattle.row.specs.Row.{at, Row}
 use Rattle.row.proofs.Rows.{at-word, row-words}
 use borrow.Author.Needs.{needs}
@@ -36,7 +36,7 @@ one-more ws₀ q ws i v m h e = record {
 all-moved : (ws₀ : List ℕ) (q : ℕ) (ws : List ℕ) (i : ℕ) → Moved ws₀ q ws i → length ws₀ ≤ i → Row ws (λ p. at ws₀ (64 * q + p))
 all-moved ws₀ q ws i m e =
     row-words ws (λ p. at ws₀ (64 * q + p))
-    (λ j b l. ap (λ (w : ℕ). bitAt w b) (word j (decLt j (length ws₀))) ∙ sym (at-word ws₀ (q + j) b l) ∙ ap (at ws₀) (place j b))
+    (λ j b l. ap (λ (w : ℕ). bit-at w b) (word j (decLt j (length ws₀))) ∙ sym (at-word ws₀ (q + j) b l) ∙ ap (at ws₀) (place j b))
   where
     word : (j : ℕ) → Dec (j < length ws₀) → getD ws j 0 ≡ getD ws₀ (q + j) 0
     word j (yes h) = m .moved j (omega arith)

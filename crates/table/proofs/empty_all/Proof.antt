@@ -52,7 +52,7 @@ use Rattle.connection.proofs.Connection.empty.Symbol as empty-def
 use Rattle.connection.proofs.Connection.empty.Symbol.{name as #empty}
 use Rattle.connection.proofs.Connection.empty.Met as empty-thm
 use Rattle.table.proofs.Filling.{fill, length-fill, fill-more, fill-all}
-use Rattle.table.proofs.Walk.{R, conn-val, conn-typed, conn-owned, bytes, in-bytes, envOf, big-lit, var, part, sets, while-test, full, frees-all}
+use Rattle.table.proofs.Walk.{R, conn-val, conn-typed, conn-owned, bytes, in-bytes, env-of, big-lit, var, part, sets, while-test, full, frees-all}
 use Rattle.table.proofs.empty_all.Key.{name as #empty-all}
 use Rattle.table.proofs.empty_all as all′
 use Rattle.table.proofs.empty_all.Statement as stated
@@ -142,7 +142,7 @@ module _ {M : Type 1} (𝓤 : URA M) (H : Heap 𝓤) (A : Atoms 𝓤) (W : Given
 
   module _ (𝓣 : Tables 𝓤 H) (d : Connection) (is-d : Is R d (conn-val d ∷ [])) (is : d ≡ empty) (l₀ l₁ l₂ l₃ l₄ l₅ l₆ : ℕ) where
     abbrev En : Env 𝓤 H
-    En = envOf (code.function .locals) (l₀ ∷ l₁ ∷ l₂ ∷ l₃ ∷ l₄ ∷ l₅ ∷ l₆ ∷ [])
+    En = env-of (code.function .locals) (l₀ ∷ l₁ ∷ l₂ ∷ l₃ ∷ l₄ ∷ l₅ ∷ l₆ ∷ [])
 
     abbrev slice : Ty
     slice = sliceTy (tyRef (named 0) mut (pointee (R .written)))

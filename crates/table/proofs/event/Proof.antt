@@ -60,7 +60,7 @@ use Rattle.connection.proofs.Connection as C₀
 use Rattle.connection.proofs.Connection.Laws as C′
 use Rattle.connection.proofs.Stepped as S₀
 use Rattle.connection.proofs.Stepped.Laws as S′
-use Rattle.table.specs.Slots.{AllSound, inSlot, meaning}
+use Rattle.table.specs.Slots.{AllSound, in-slot, meaning}
 use Rattle.table.proofs.Slots.{past-sixteen, past-end, stored}
 use Rattle.table.proofs.Walk.{R, conn-val, conn-typed, conn-owned, bytes, in-bytes, big-lit, var, part, sets, turns-back, full, bare, frees-all}
 use Rattle.table.proofs.in_slot as step′
@@ -101,7 +101,7 @@ abbrev Said : List Connection → ℕ → Event → Answer → List Connection �
 Said ys n e r zs = promise.Meets AllSound meaning ys (on (meaning ys) n e) r zs
 
 abbrev Stepping : Connection → Event → Stepped → Type 0
-Stepping c e r = promise.Meets Sound connection.meaning c (inSlot (connection.meaning c) e) (r .answer) (r .«record»)
+Stepping c e r = promise.Meets Sound connection.meaning c (in-slot (connection.meaning c) e) (r .answer) (r .«record»)
 
 -- the contract of `in_slot`
 abbrev Step : {M : Type 1} (𝓤 : URA M) (H : Heap 𝓤) (A : Atoms 𝓤) (mem : Memory → SProp 𝓤) (run : Routine → Fun 𝓤) → Contract 𝓤

@@ -17,7 +17,7 @@ use Rattle.rules.proofs.Meeting.{refuses}
 use Rattle.sender.specs.Record as sender
 use Rattle.connection.specs.declared.Connection.{Connection}
 use Rattle.connection.specs.Record.{meaning}
-use Rattle.table.specs.Slots.{inSlot}
+use Rattle.table.specs.Slots.{in-slot}
 use Rattle.table.proofs.in_slot.Statement.{statement}
 use Rattle.table.proofs.in_slot.Tie as tie
 
@@ -34,19 +34,19 @@ no-start event.Resend h = refl
 
 -- the ways out of the rule
 module _ (x : Connection) (e : Event) where
-  in-use : is-start e ≡ true → (x .sender .room ≡ 0 → ⊥) → inSlot (meaning x) e ≡ Refused 3
-  unfolding inSlot meaning sender.meaning refuse
+  in-use : is-start e ≡ true → (x .sender .room ≡ 0 → ⊥) → in-slot (meaning x) e ≡ Refused 3
+  unfolding in-slot meaning sender.meaning refuse
   in-use h used = rw (h, ne-eqb (x .sender .room) 0 used)
 
-  free : x .sender .room ≡ 0 → inSlot (meaning x) e ≡ step (meaning x) e
-  unfolding inSlot meaning sender.meaning refuse
+  free : x .sender .room ≡ 0 → in-slot (meaning x) e ≡ step (meaning x) e
+  unfolding in-slot meaning sender.meaning refuse
   free h = rw (eq-eqb (x .sender .room) 0 h, and-false)
 
-  other : is-start e ≡ false → inSlot (meaning x) e ≡ step (meaning x) e
-  unfolding inSlot refuse
+  other : is-start e ≡ false → in-slot (meaning x) e ≡ step (meaning x) e
+  unfolding in-slot refuse
   other h = rw h
 
-passes : (c : tie.At-match-came) → let a = c .before .before .args in inSlot (meaning (a .c)) (a .event) ≡ step (meaning (a .c)) (a .event)
+passes : (c : tie.At-match-came) → let a = c .before .before .args in in-slot (meaning (a .c)) (a .event) ≡ step (meaning (a .c)) (a .event)
 passes c =
     let a = c .before .before .args in
     ⊎-elim (λ w. free (a .c) (a .event) (w .2 .left))

@@ -3,7 +3,7 @@ use mathlib.Core.Path.{_≡_, sym, ap, _∙_}
 use Prim.Native.Nat.{_+_, _%_}
 use native.Mathlib.Omega.{arith}
 use borrow.Author.Tests.{lt-ltb}
-use Rattle.word.specs.Word.{bitOfTwo}
+use Rattle.word.specs.Word.{bit-of-two}
 use Rattle.word.proofs.Bits.{funnel}
 use borrow.Author.Needs.{needs}
 use Rattle.word.proofs.across.Statement.{statement}
@@ -15,7 +15,7 @@ returns c =
     let low = c .before .args .low in
     let high = c .before .args .high in
     let i-is : c .before .args .s % 64 + i ≡ i = omega arith in
-    sym (ap (bitOfTwo low high) i-is ∙ rw (lt-ltb i 64 h))
+    sym (ap (bit-of-two low high) i-is ∙ rw (lt-ltb i 64 h))
 
 cast-result : tie.Need-cast-result
 cast-result c = search needs

@@ -5,7 +5,7 @@ use Prim.Native.Nat.{ℕ, _-_, _%_, _^_, _<_}
 use native.Mathlib.Omega.{arith}
 use lib.Bits.{bitAnd}
 use lib.Pow.{pow-lt}
-use Rattle.word.specs.Word.{bitAt}
+use Rattle.word.specs.Word.{bit-at}
 use Rattle.word.proofs.Bits.{bit-and-not, bit-one, shl-one}
 use borrow.Author.Needs.{needs}
 use Rattle.word.proofs.clear.Statement.{statement}
@@ -23,8 +23,8 @@ returns c =
     let w = c .args .w in
     let i = c .args .i % 64 in
     let l : i < 64 = omega arith in
-    ap (λ (x : ℕ). bitAt (bitAnd w ((2 ^ 64 - 1) - x)) k) (shl-one 64 i l)
-    ∙ bit-and-not 64 w (2 ^ i) k (pow-lt l) h ∙ ap (λ (b : Bool). bitAt w k && not b) (bit-one i k)
+    ap (λ (x : ℕ). bit-at (bitAnd w ((2 ^ 64 - 1) - x)) k) (shl-one 64 i l)
+    ∙ bit-and-not 64 w (2 ^ i) k (pow-lt l) h ∙ ap (λ (b : Bool). bit-at w k && not b) (bit-one i k)
 
 pub clear-spec : {M : Type 1} → statement M
 clear-spec = tie.close (tie.spec cast-result shl-result returns)

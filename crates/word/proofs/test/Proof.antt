@@ -1,6 +1,6 @@
 -- `test` meets its contract: the code computes the digit by which a bit is defined. Assumes nothing.
 use mathlib.Core.Path.{refl}
-use Rattle.word.specs.Word.{bitAt}
+use Rattle.word.specs.Word.{bit-at}
 use borrow.Author.Needs.{needs}
 use Rattle.word.proofs.test.Statement.{statement}
 use Rattle.word.proofs.test.Tie as tie
@@ -12,7 +12,7 @@ shr-result : tie.Need-shr-result
 shr-result c = search needs
 
 returns : tie.Need-returns
-unfolding bitAt
+unfolding bit-at
 returns c = refl
 
 pub test-spec : {M : Type 1} → statement M

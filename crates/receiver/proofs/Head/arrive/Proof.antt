@@ -9,7 +9,7 @@ use borrow.Author.Tests.{not-true, not-false}
 use Rattle.rules.specs.Numbers.{psn-ok, size-ok, flags-ok}
 use Rattle.rules.specs.Outcome.{Refused}
 use Rattle.rules.specs.Promise.{Meets}
-use Rattle.rules.specs.Receiver.{Receiver, arrive, judged, accept, sackOf, nackOf}
+use Rattle.rules.specs.Receiver.{Receiver, arrive, judged, accept, sack-of, nack-of}
 use Rattle.rules.specs.declared.Verdict.the-variants.{Fresh, Known}
 use Rattle.rules.specs.declared.Answer.the-variants as answer
 use Rattle.rules.proofs.Meeting.{refuses, does}
@@ -135,8 +135,8 @@ returns-4 c =
     let e = judged-from v in
     let a = e .args .a in
     let r = meaning (held-at e) in
-    let sack = c .sack .ensures ∙ ap (λ (s : Receiver). sackOf s a) (accepted .1) in
-    does (accept r a) (answer.Acked Fresh (sackOf (accept r a) a)) (passes v ∙ ap (judged r a) fresh) (ap₂ answer.Acked fresh sack) (accepted .1) (accepted .0)
+    let sack = c .sack .ensures ∙ ap (λ (s : Receiver). sack-of s a) (accepted .1) in
+    does (accept r a) (answer.Acked Fresh (sack-of (accept r a) a)) (passes v ∙ ap (judged r a) fresh) (ap₂ answer.Acked fresh sack) (accepted .1) (accepted .0)
 
 enum-told-2 : tie.Need-enum-told-2
 enum-told-2 c = search needs
@@ -155,7 +155,7 @@ returns-5 c =
     let e = judged-from v in
     let a = e .args .a in
     let r = meaning (held-at e) in
-    does r (answer.Acked Known (sackOf r a)) (passes v ∙ ap (judged r a) known) (ap₂ answer.Acked known (c .sack2 .ensures)) refl (e .pre)
+    does r (answer.Acked Known (sack-of r a)) (passes v ∙ ap (judged r a) known) (ap₂ answer.Acked known (c .sack2 .ensures)) refl (e .pre)
 
 nack-requires : tie.Need-nack-requires
 nack-requires c κs = search needs
@@ -171,7 +171,7 @@ returns-6 c =
     let a = e .args .a in
     let r = meaning (held-at e) in
     let o = passes v ∙ judged-nack r a (v .judge .result) (not-fresh (m .before)) (not-known m) in
-    does r (answer.Nacked (v .judge .result) (nackOf (v .judge .result) a)) o (ap (answer.Nacked (v .judge .result)) (c .nack .ensures)) refl (e .pre)
+    does r (answer.Nacked (v .judge .result) (nack-of (v .judge .result) a)) o (ap (answer.Nacked (v .judge .result)) (c .nack .ensures)) refl (e .pre)
 
 pub arrive-spec : {M : Type 1} → statement M
 arrive-spec =

@@ -7,7 +7,7 @@ use native.Mathlib.Omega.{arith}
 use lib.Dec.{ltb}
 use borrow.Author.Needs.{needs}
 use borrow.Author.Tests.{lt-ltb, le-ltb}
-use Rattle.rules.specs.Receiver.{sackOf}
+use Rattle.rules.specs.Receiver.{sack-of}
 use Rattle.rules.proofs.Allowed.{room-numbers}
 use Rattle.receiver.specs.Held.{Held, held, meaning}
 use Rattle.receiver.proofs.Blocks.{block-fits, block-is}
@@ -61,7 +61,7 @@ flag-requires-2 : tie.Need-flag-requires-2
 flag-requires-2 c κs = search needs
 
 returns : tie.Need-returns
-unfolding sackOf meaning
+unfolding sack-of meaning
 returns c =
     let cack = c .before .before .before .after2 .ensures in
     let bits = c .before .before .before .before .block in

@@ -5,7 +5,7 @@ use borrow.Author.Needs.{needs}
 use Rattle.rules.proofs.Meeting.{refuses}
 use Rattle.receiver.specs.declared.Receiver.{Receiver}
 use Rattle.receiver.specs.Held.{Held}
-use Rattle.receiver.specs.Record.{heldOf, meaning}
+use Rattle.receiver.specs.Record.{held-of, meaning}
 use Rattle.receiver.proofs.Entries.{is-unused}
 use Rattle.receiver.proofs.Ways.{arrive-2}
 use Rattle.receiver.proofs.Receiver.arrive.Statement.{statement}
@@ -23,7 +23,7 @@ returns c =
     let entry = c .before .before in
     let x = entry .args .self in
     let said = c .refused .ensures in
-    refuses 2 (arrive-2 (meaning x) (entry .args .a) (is-unused (heldOf x) (c .before .if1 .taken))) (said .0) (said .1) (entry .pre)
+    refuses 2 (arrive-2 (meaning x) (entry .args .a) (is-unused (held-of x) (c .before .if1 .taken))) (said .0) (said .1) (entry .pre)
 
 slice-aggregate-arrive : tie.Need-slice-aggregate-arrive
 slice-aggregate-arrive c = search needs

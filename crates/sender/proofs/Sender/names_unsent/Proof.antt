@@ -6,7 +6,7 @@ use Prim.Native.Nat.{ℕ, _<_}
 use native.Mathlib.Omega.{arith}
 use lib.Bits.{bitAnd, and-le-l}
 use Rattle.psn.specs.Psn.{half, distance}
-use Rattle.word.specs.Word.{bitAt}
+use Rattle.word.specs.Word.{bit-at}
 use Rattle.word.proofs.Bits.{bit-and}
 use Rattle.sender.proofs.Judged.{unsent-by-cack, unsent-by-bit}
 use borrow.Author.Needs.{needs}
@@ -46,7 +46,7 @@ returns-2 c =
     let o-is = o .ensures ∙ ap (λ (a : ℕ). distance a (block .base .0)) (c .before .before .before .after .ensures) in
     unsent-by-bit x (entry .args .cack .0) block d (joined .before .distance .ensures) not-past (o .result) (bitAnd (block .bitmap) mask)
     o-is (omega (arith, and-le-l (block .bitmap) mask))
-    (λ j l. bit-and (block .bitmap) mask j ∙ ap (λ (t : Bool). bitAt (block .bitmap) j && t) (c .before .unsent-bits .ensures j l))
+    (λ j l. bit-and (block .bitmap) mask j ∙ ap (λ (t : Bool). bit-at (block .bitmap) j && t) (c .before .unsent-bits .ensures j l))
 
 pub names-unsent-spec : {M : Type 1} → statement M
 names-unsent-spec =

@@ -6,7 +6,7 @@ use mathlib.Core.Logic.{inr}
 use Prim.Native.Nat.{ℕ, _+_, _-_, _%_, _≤_, _<_}
 use native.Mathlib.Omega.{arith}
 use borrow.Author.Count.{below-more}
-use Rattle.word.specs.Word.{bitAt}
+use Rattle.word.specs.Word.{bit-at}
 use Rattle.row.specs.Row.{at}
 use Rattle.rules.specs.Numbers.{psn}
 use Rattle.rules.specs.declared.Answer.the-variants as answer
@@ -40,7 +40,7 @@ stands c = c .before .before .before .before .before .loop .p
 -- the bit that is tested is the row's
 tested : (c : tie.After-test Inv-loop μ-loop) → c .test .result ≡ at (row-of c) (stands c)
 unfolding at
-tested c = c .test .ensures ∙ ap (λ (w : ℕ). bitAt w (stands c % 64)) (c .before .before .word-at .ensures)
+tested c = c .test .ensures ∙ ap (λ (w : ℕ). bit-at w (stands c % 64)) (c .before .before .word-at .ensures)
 
 refused-requires : tie.Need-refused-requires Inv-loop μ-loop
 refused-requires c κs = search needs
