@@ -14,7 +14,7 @@ use Rattle.word.specs.Word.{bit-at, Bits, only-in}
 use Rattle.lists.proofs.Index.{total-le}
 use Rattle.row.specs.Row.{at, bits, Becomes}
 use Rattle.row.proofs.Rows.{at-word, at-past, row-set, weigh-word, tally-word}
-use Rattle.retire.specs.Rows.{fresh, size-at, OneRetired, Retires}
+use Rattle.retire.specs.Rows.{fresh, size-by, OneRetired, Retires}
 use Rattle.retire.specs.declared.Retired.{Retired}
 use Rattle.word.proofs.Compare.{leb-same}
 use Rattle.retire.proofs.Naming.{size-on}
@@ -67,7 +67,7 @@ pub record Upto (R M sizes : List ℕ) (first : ℕ) (f : ℕ → Bool) (j : ℕ
   pub retired-are : Becomes R R′ (λ p. at R p || f p && ltb p (64 * j))
   pub marked-are : Becomes M M′ (λ p. at M p && not (f p && ltb p (64 * j)))
   pub counted : newly ≡ tally (64 * j) (fresh R f)
-  pub weighed : sum ≡ weigh (64 * j) (fresh R f) (size-at sizes first)
+  pub weighed : sum ≡ weigh (64 * j) (fresh R f) (size-by sizes first)
 
 module _ (R M sizes : List ℕ) (first : ℕ) (f : ℕ → Bool) where
   pub upto-none : Upto R M sizes first f 0 R M 0 0
@@ -84,7 +84,7 @@ module _ (R M sizes : List ℕ) (first : ℕ) (f : ℕ → Bool) where
     -- one word more: the SACK names `named` in it, which is retired as `out` says and weighs `more`
     pub upto-more : (j : ℕ) (R′ M′ : List ℕ) (newly sum : ℕ) → Upto R M sizes first f j R′ M′ newly sum → j < length R
         → (named start more : ℕ) (out : Retired) → Bits named (λ b. f (64 * j + b)) → OneRetired (getD R′ j 0) (getD M′ j 0) named out
-        → start ≡ after first (64 * j) → more ≡ weigh 64 (bit-at (out .fresh)) (size-at sizes start)
+        → start ≡ after first (64 * j) → more ≡ weigh 64 (bit-at (out .fresh)) (size-by sizes start)
         → Upto R M sizes first f (j + 1) (set R′ j (out .retired)) (set M′ j (out .marked)) (newly + out .newly) (sum + more)
     upto-more j R′ M′ newly sum u l named start more out is h start-is more-is = record {
       within = omega arith;
@@ -92,7 +92,7 @@ module _ (R M sizes : List ℕ) (first : ℕ) (f : ℕ → Bool) where
       marked-are = joined-more (λ a b. a && not b) and-true f M j M′ (u .marked-are) (out .marked) named (omega arith) (h .marked-are) is;
       counted = ap₂ (λ (x y : ℕ). x + y) (u .counted) (h .counted) ∙ sym (tally-word (fresh R f) (only-in named (getD R′ j 0)) j new);
       weighed = ap₂ (λ (x y : ℕ). x + y) (u .weighed) more-is
-          ∙ sym (weigh-word (fresh R f) (bit-at (out .fresh)) (size-at sizes first) (size-at sizes start) j (λ b p. new b p ∙ sym (h .fresh-are b p)) weight);
+          ∙ sym (weigh-word (fresh R f) (bit-at (out .fresh)) (size-by sizes first) (size-by sizes start) j (λ b p. new b p ∙ sym (h .fresh-are b p)) weight);
     }
       where
         new : (b : ℕ) → b < 64 → fresh R f (64 * j + b) ≡ only-in named (getD R′ j 0) b
@@ -100,8 +100,8 @@ module _ (R M sizes : List ℕ) (first : ℕ) (f : ℕ → Bool) where
             let stood = still (λ x y. x || y) or-false f R j R′ (u .retired-are) (out .retired) named l (h .retired-are) is b p in
             sym (ap₂ (λ (x y : Bool). x && not y) (is b p) stood)
 
-        weight : (b : ℕ) → b < 64 → size-at sizes first (64 * j + b) ≡ size-at sizes start b
-        weight b p = sym (ap (λ (s : ℕ). size-at sizes s b) start-is ∙ ap (λ (k : ℕ). getD sizes k 0) (size-on first (64 * j) b))
+        weight : (b : ℕ) → b < 64 → size-by sizes first (64 * j + b) ≡ size-by sizes start b
+        weight b p = sym (ap (λ (s : ℕ). size-by sizes s b) start-is ∙ ap (λ (k : ℕ). getD sizes k 0) (size-on first (64 * j) b))
 
     -- all words are retired; past the end nothing is marked
     pub all-retired : (j : ℕ) (R′ M′ : List ℕ) (newly sum : ℕ) → Upto R M sizes first f j R′ M′ newly sum → length R ≤ j

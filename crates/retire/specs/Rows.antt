@@ -28,8 +28,8 @@ unfoldable pub names : ℕ → ℕ → Block → ℕ → Bool
 names first upto b p = ltb p upto || has-bit b (after first p)
 
 -- the size of the packet number of bit p: sizes stand by PSN modulo the largest room
-abbrev pub size-at : List ℕ → ℕ → ℕ → ℕ
-size-at sizes first p = getD sizes ((first + p) % largest-room) 0
+abbrev pub size-by : List ℕ → ℕ → ℕ → ℕ
+size-by sizes first p = getD sizes ((first + p) % largest-room) 0
 
 -- so many words that the sizes of all their bits, of 16 bits each, add up in 32 bits
 abbrev pub longest-weighed : ℕ
@@ -51,4 +51,4 @@ pub record Retires (retired marked sizes : List ℕ) (first : ℕ) (f : ℕ → 
   pub retired-are : Becomes retired retired′ (λ p. at retired p || f p && ltb p (bits retired))
   pub marked-are : Becomes marked marked′ (λ p. at marked p && not (f p))
   pub counted : r .newly ≡ tally (bits retired) (fresh retired f)
-  pub weighed : r .bytes ≡ weigh (bits retired) (fresh retired f) (size-at sizes first)
+  pub weighed : r .bytes ≡ weigh (bits retired) (fresh retired f) (size-by sizes first)

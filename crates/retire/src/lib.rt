@@ -7,7 +7,7 @@ ghost use Rattle.lists.specs.Index.{weigh};
 ghost use Rattle.word.specs.Word.{bit-at, Bits};
 ghost use Rattle.row.specs.Row.{longest};
 ghost use Rattle.rules.specs.Numbers.{largest-room};
-ghost use Rattle.retire.specs.Rows.{ahead, bit-of-block, names, size-at, OneRetired, Retires, longest-weighed};
+ghost use Rattle.retire.specs.Rows.{ahead, bit-of-block, names, size-by, OneRetired, Retires, longest-weighed};
 use psn::HALF;
 use psn::Psn;
 use psn::TURN;
@@ -60,7 +60,7 @@ fn named(j: u32, first: Psn, upto: u32, block: Block) -> u64
 // The sizes of a word's set bits added up; first is the packet number of its lowest bit.
 fn bytes(sizes: &[u16], first: Psn, word: u64) -> u32
     requires { ⌜ length (now sizes) ≡ largest-room ⌝ }
-    ensures { λ r. ⌜ r ≡ weigh 64 (bit-at word) (size-at (now (sizes .entry)) (first .0)) ⌝ }
+    ensures { λ r. ⌜ r ≡ weigh 64 (bit-at word) (size-by (now (sizes .entry)) (first .0)) ⌝ }
 {
     let start = first.0 % LARGEST_ROOM;
     let mut left = word;

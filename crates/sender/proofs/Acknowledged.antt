@@ -25,7 +25,7 @@ use Rattle.rules.specs.Sender as rule
 use Rattle.rules.specs.declared.Block.{Block}
 use Rattle.rules.specs.declared.Answer.the-variants as answer
 use Rattle.lists.proofs.Joined.{and-true-each, or-false-each, never-true}
-use Rattle.retire.specs.Rows.{names, fresh, size-at, Retires}
+use Rattle.retire.specs.Rows.{names, fresh, size-by, Retires}
 use Rattle.retire.specs.declared.Sum.{Sum}
 use Rattle.word.proofs.Compare.{leb-same}
 use Rattle.retire.proofs.Naming.{size-on}
@@ -239,7 +239,7 @@ module _ (x : Sender) (cack : ℕ) (b : Block) (u : ℕ) (R M : List ℕ) (out :
   bytes-is =
       let a = x .place .0 in
       all .rows .weighed
-      ∙ weigh-in (size-at (x .sizes) (row-first a)) (λ i. getD (x .sizes) (size-at x i) 0)
+      ∙ weigh-in (size-by (x .sizes) (row-first a)) (λ i. getD (x .sizes) (size-at x i) 0)
       (λ i l. ap (λ (n : ℕ). getD (x .sizes) n 0) (row-size a i))
 
   bytes-split : total (x .outstanding) (λ i. size-held (mid i)) + out .bytes ≡ x .held

@@ -9,7 +9,7 @@ use Rattle.lists.specs.Index.{total, weigh}
 use Rattle.word.specs.Word.{bit-at}
 use Rattle.lists.proofs.Index.{total-same}
 use Rattle.rules.specs.Numbers.{largest-room}
-use Rattle.retire.specs.Rows.{size-at}
+use Rattle.retire.specs.Rows.{size-by}
 use Rattle.retire.proofs.Naming.{size-low}
 use Rattle.retire.proofs.Walk.{walk-ends, walk-within, walk-goes, walk-left}
 use borrow.Author.Needs.{needs}
@@ -17,7 +17,7 @@ use Rattle.retire.proofs.bytes.Statement.{statement}
 use Rattle.retire.proofs.bytes.Tie as tie
 
 abbrev Inv-loop : tie.InvT-loop
-Inv-loop sizes word start left₀ b₀ sum₀ left b sum = (b ≤ 64) × (left ≡ word / 2 ^ b) × (sum ≡ weigh b (bit-at word) (size-at sizes start)) × (sum ≤ b * 65535)
+Inv-loop sizes word start left₀ b₀ sum₀ left b sum = (b ≤ 64) × (left ≡ word / 2 ^ b) × (sum ≡ weigh b (bit-at word) (size-by sizes start)) × (sum ≤ b * 65535)
 
 abbrev μ-loop : tie.MeasureT-loop
 μ-loop sizes word start left₀ b₀ sum₀ left b sum = 64 - b
@@ -84,7 +84,7 @@ loop-again c =
     let word = entry .args .word in
     let b = l .loop .b in
     let t = c .before .lowest .result in
-    let g = size-at (entry .args .sizes .now) (entry .args .first .0 % largest-room) in
+    let g = size-by (entry .args .sizes .now) (entry .args .first .0 % largest-room) in
     let small = entry .fits .word .fits in (
       omega (arith, within (c .before)),
       walk-left word b small g (l .loop .left) t (l .loop .inv .1) (c .before .before .loop-test .taken) (c .before .lowest .ensures),
@@ -102,7 +102,7 @@ returns c =
     let first = entry .args .first .0 in
     let none-left = sym (l .loop .inv .1) ∙ c .loop-test .left in
     l .loop .inv .2
-    ∙ sym (walk-ends word (l .loop .b) (entry .fits .word .fits) (size-at sizes (first % largest-room)) none-left (l .loop .inv .0))
+    ∙ sym (walk-ends word (l .loop .b) (entry .fits .word .fits) (size-by sizes (first % largest-room)) none-left (l .loop .inv .0))
     ∙ total-same 64 _ _ (λ i h. ap (λ (k : ℕ). cond (bit-at word i) (getD sizes k 0) 0) (size-low first i))
 
 pub bytes-spec : {M : Type 1} → statement M

@@ -5,7 +5,7 @@ use lib.ListN.{length, getD}
 use Rattle.word.specs.Word.{bit-at, only-in}
 use Rattle.lists.proofs.Index.{tally-le}
 use Rattle.rules.specs.Numbers.{largest-room}
-use Rattle.retire.specs.Rows.{fresh, names, size-at}
+use Rattle.retire.specs.Rows.{fresh, names, size-by}
 use Rattle.retire.proofs.Words.{Upto, upto-none, upto-more, all-retired, weigh-le}
 use borrow.Author.Needs.{needs}
 use Rattle.retire.proofs.retire.Statement.{statement}
@@ -87,16 +87,16 @@ add-sum c =
     let first = entry .args .first .0 in
     let f = names first (entry .args .upto) (entry .args .block) in
     let read = c .before .before .before .before .before .before .before .before .before in
-    let small : (a p : ℕ) → size-at sizes a p ≤ 65535 = λ a p. omega (arith, read .shared-slice-known .given ((a + p) % largest-room)) in
+    let small : (a p : ℕ) → size-by sizes a p ≤ 65535 = λ a p. omega (arith, read .shared-slice-known .given ((a + p) % largest-room)) in
     let start = c .before .after .result .0 in
     omega (
       arith,
       entry .pre .1,
       l .loop .inv .within,
       l .loop .inv .weighed,
-      weigh-le (64 * l .loop .j) 65535 (fresh (entry .args .retired .now) f) (size-at sizes first) (small first),
+      weigh-le (64 * l .loop .j) 65535 (fresh (entry .args .retired .now) f) (size-by sizes first) (small first),
       c .bytes .ensures,
-      weigh-le 64 65535 (bit-at (c .before .before .before .one .result .fresh)) (size-at sizes start) (small start),
+      weigh-le 64 65535 (bit-at (c .before .before .before .one .result .fresh)) (size-by sizes start) (small start),
     )
 
 add-j : tie.Need-add-j Inv-loop μ-loop
