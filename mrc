@@ -9,13 +9,14 @@ here=$(cd "$(dirname "$0")" && pwd) || exit 2
 usage() { sed -n '2,7s/^# \{0,1\}//p' "$0" >&2; exit 2; }
 [ $# -ge 1 ] && [ $# -le 2 ] || usage
 
-# the command line of a program of target/bin: it is built for x86-64, and the toolchain's emulator runs it elsewhere
+# the command line of a program of target/bin: it is built for x86-64, and the toolchain's emulator runs it elsewhere, as a plain
+# processor, on which it copies memory by words and not by bytes
 program() {
     home=$(dirname "$(dirname "$(rt doc)")")
     tools=$home/on/$(uname -m)/toolchain
     emulator=$tools/bin/qemu-x86_64
     [ -x "$emulator" ] && [ "$(uname -m)" != x86_64 ] || emulator=
-    printf '%s\n' ${emulator:+"$emulator"} "$tools/lib/ld-linux-x86-64.so.2" --library-path "$tools/lib" "$here/target/bin/$1"
+    printf '%s\n' ${emulator:+"$emulator" -cpu qemu64} "$tools/lib/ld-linux-x86-64.so.2" --library-path "$tools/lib" "$here/target/bin/$1"
 }
 
 built() {

@@ -5,10 +5,13 @@ ghost use Rattle.word.specs.Word.{bit-at};
 ghost use Rattle.rules.specs.Numbers.{psn-ok, room-ok, size-ok, flags-ok, reason-ok};
 use psn::Psn;
 use psn::TURN;
+use rules::FLAGS_END;
 use rules::LARGEST_ROOM;
 use rules::LARGEST_SIZE;
 use rules::LEAST_ROOM;
 use rules::LEAST_SIZE;
+use rules::TRIMMED;
+use rules::TRIMMED_LAST_HOP;
 
 pub fn psn_ok(p: Psn) -> bool
     ensures { λ r. ⌜ r ≡ psn-ok p ⌝ }
@@ -41,11 +44,11 @@ pub fn size_ok(size: u16) -> bool
 pub fn flags_ok(flags: u8) -> bool
     ensures { λ r. ⌜ r ≡ flags-ok flags ⌝ }
 {
-    if 32 <= flags {
+    if FLAGS_END <= flags {
         return false;
     }
-    if flag(flags, 2) {
-        return !flag(flags, 3);
+    if flag(flags, TRIMMED) {
+        return !flag(flags, TRIMMED_LAST_HOP);
     }
     true
 }

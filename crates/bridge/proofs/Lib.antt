@@ -1,6 +1,5 @@
--- Demand 3 holds of the records that the card keeps.
-pub mod Worlds
+-- Demand 3 for the records that the card keeps. Assumes nothing.
 pub mod Engines
-pub mod Slots
-pub mod Sides
+pub mod Halves
+pub mod Begun
 pub mod Tables

@@ -1,13 +1,11 @@
 // One connection by value: a sender and a receiver that share nothing. An event touches one side, and the other comes back as it was.
 ghost use mathlib.Core.Path.{_≡_};
 ghost use Rattle.rules.specs.Connection.{close as close-of, start as start-of, step as step-of};
-ghost use Rattle.rules.specs.Promise.{Meets};
-ghost use Rattle.connection.specs.Record.{empty as empty-of, meaning, Sound, sent-by, received-by};
-use psn::Psn;
-use receiver::Arrived;
+ghost use Rattle.connection.specs.Record.{empty as empty-of, meaning, received-by, sent-by, Sound, Steps};
 use receiver::Receiver;
 use rules::Answer;
-use rules::Event;
+use rules::Start;
+use rules::Use;
 use sender::Sender;
 
 pub struct Connection {
@@ -56,7 +54,7 @@ impl Connection {
     }
 
     // The connection after an event on its receiving side.
-    fn received(self, out: Arrived) -> Stepped
+    fn received(self, out: receiver::Stepped) -> Stepped
         ensures { λ r. ⌜ r ≡ received-by self out ⌝ }
     {
         let answer = out.answer;
@@ -68,44 +66,41 @@ impl Connection {
         }
     }
 
-    // A start, in place of this record if it is allowed.
-    fn restart(self, send_room: u32, send_psn: Psn, receive_room: u32, receive_psn: Psn) -> Stepped
-        requires { ⌜ Sound self ⌝ }
-        ensures { λ r. ⌜ Meets Sound meaning self (start-of «send_room» «send_psn» «receive_room» «receive_psn») (r .answer) (r .record) ⌝ }
+    // A start. Refused, it hands back the empty record.
+    pub fn start(opening: Start) -> Stepped
+        ensures { λ r. ⌜ Steps empty-of (start-of opening) r ⌝ }
     {
-        if !allowed::room_ok(send_room) {
-            return self.refused(4);
+        let none = Connection::empty();
+        let sending = opening.sending;
+        let receiving = opening.receiving;
+        if !allowed::room_ok(sending.room as u32) {
+            return none.refused(4);
         }
-        if !allowed::room_ok(receive_room) {
-            return self.refused(4);
+        if !allowed::room_ok(receiving.room as u32) {
+            return none.refused(4);
         }
+        let send_psn = sending.first;
         if !allowed::psn_ok(send_psn) {
-            return self.refused(5);
+            return none.refused(5);
         }
+        let receive_psn = receiving.first;
         if !allowed::psn_ok(receive_psn) {
-            return self.refused(5);
+            return none.refused(5);
         }
-        let sending = Sender::start(send_room, send_psn);
-        let receiving = Receiver::start(receive_room, receive_psn);
-        let sender = sending.record;
-        let receiver = receiving.record;
+        let sent = Sender::start(sending);
+        let received = Receiver::start(receiving);
+        let sender = sent.record;
+        let receiver = received.record;
         Stepped {
             answer: Answer::Started,
             record: Connection { sender, receiver },
         }
     }
 
-    // A start. Refused, it hands back the empty record.
-    pub fn start(send_room: u32, send_psn: Psn, receive_room: u32, receive_psn: Psn) -> Stepped
-        ensures { λ r. ⌜ Meets Sound meaning empty-of (start-of «send_room» «send_psn» «receive_room» «receive_psn») (r .answer) (r .record) ⌝ }
-    {
-        Connection::empty().restart(send_room, send_psn, receive_room, receive_psn)
-    }
-
     // A close.
     pub fn close(self) -> Stepped
         requires { ⌜ Sound self ⌝ }
-        ensures { λ r. ⌜ Meets Sound meaning self (close-of (meaning self)) (r .answer) (r .record) ⌝ }
+        ensures { λ r. ⌜ Steps self (close-of (meaning self)) r ⌝ }
     {
         let sender = self.sender;
         let room = sender.room;
@@ -118,27 +113,17 @@ impl Connection {
         }
     }
 
-    // An event.
-    pub fn step(self, event: Event) -> Stepped
+    // A close, or an event of one side.
+    pub fn step(self, event: Use) -> Stepped
         requires { ⌜ Sound self ⌝ }
-        ensures { λ r. ⌜ Meets Sound meaning self (step-of (meaning self) event) (r .answer) (r .record) ⌝ }
+        ensures { λ r. ⌜ Steps self (step-of (meaning self) event) r ⌝ }
     {
         let sender = self.sender;
         let receiver = self.receiver;
         match event {
-            Event::Start {
-                send_room,
-                send_psn,
-                receive_room,
-                receive_psn,
-            } => self.restart(send_room as u32, send_psn, receive_room as u32, receive_psn),
-            Event::Close => self.close(),
-            Event::Send { size } => self.sent(sender.send(size)),
-            Event::Arrive(a) => self.received(receiver.arrive(a)),
-            Event::Sack { cack, block } => self.sent(sender.sack(cack, block)),
-            Event::Nack { psn, reason } => self.sent(sender.nack(psn, reason)),
-            Event::Timer { psn } => self.sent(sender.timer(psn)),
-            Event::Resend => self.sent(sender.resend()),
+            Use::Close => self.close(),
+            Use::Sends(e) => self.sent(sender.step(e)),
+            Use::Receives(e) => self.received(receiver.step(e)),
         }
     }
 }

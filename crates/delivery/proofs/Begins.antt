@@ -1,17 +1,20 @@
--- The start of a run is what the rules' own start gives: neither side's is refused. Assumes nothing.
+-- A start with a room that is allowed and a packet number that is low is done: neither side's is refused. Assumes nothing.
 use mathlib.Core.Path.{_≡_}
-use Rattle.rules.specs.Numbers.{turn, psn}
-use Rattle.rules.specs.Outcome.{Done, refuse, started}
+use mathlib.Core.Bool.{true}
+use Prim.Native.Nat.{_<_}
+use Rattle.promise.specs.Outcome.{Done, unless}
+use Rattle.rules.specs.Numbers.{turn, room-ok}
 use Rattle.rules.specs.Receiver as receiver
 use Rattle.rules.specs.Sender as sender
 use Rattle.rules.specs.declared.Answer.the-variants.{Started}
+use Rattle.rules.specs.declared.Opening.{Opening}
 use borrow.Author.Tests.{lt-ltb}
-use Rattle.delivery.specs.Network.{Start, begin}
 
-pub sender-begins : (s : Start) → sender.start (s .send-room) (psn (s .first)) ≡ Done (begin s .sending) Started
-unfolding sender.start started refuse begin
-sender-begins s = rw (s .send-good, lt-ltb (s .first) turn (s .first-low))
+module _ (o : Opening) (good : room-ok (o .room) ≡ true) (low : o .first .0 < turn) where
+  pub sender-begins : sender.start o ≡ Done (sender.fresh (o .room) (o .first .0)) Started
+  unfolding sender.start sender.start-refusals unless
+  sender-begins = rw (good, lt-ltb (o .first .0) turn low)
 
-pub receiver-begins : (s : Start) → receiver.start (s .receive-room) (psn (s .first)) ≡ Done (begin s .receiving) Started
-unfolding receiver.start started refuse begin
-receiver-begins s = rw (s .receive-good, lt-ltb (s .first) turn (s .first-low))
+  pub receiver-begins : receiver.start o ≡ Done (receiver.fresh (o .room) (o .first .0)) Started
+  unfolding receiver.start receiver.start-refusals unless
+  receiver-begins = rw (good, lt-ltb (o .first .0) turn low)

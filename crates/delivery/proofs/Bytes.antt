@@ -44,10 +44,10 @@ pub total-older : (A : ℕ → Bool) (z : ℕ) (l : List ℕ) → A (length l) �
 unfolding total
 total-older A z l out = rw out (omega arith)
 
-pub sizeOf-older : (z : ℕ) (l : List ℕ) (i : ℕ) → i < length l → size-of (z ∷ l) i ≡ size-of l i
+pub size-of-older : (z : ℕ) (l : List ℕ) (i : ℕ) → i < length l → size-of (z ∷ l) i ≡ size-of l i
 unfolding size-of
-sizeOf-older z l i h = rw (ne-eqb (length l) i (omega arith))
+size-of-older z l i h = rw (ne-eqb (length l) i (omega arith))
 
-pub sizeOf-newest : (z : ℕ) (l : List ℕ) → size-of (z ∷ l) (length l) ≡ z
+pub size-of-newest : (z : ℕ) (l : List ℕ) → size-of (z ∷ l) (length l) ≡ z
 unfolding size-of
-sizeOf-newest z l = rw (eq-eqb (length l) (length l) refl)
+size-of-newest z l = rw (eq-eqb (length l) (length l) refl)

@@ -11,20 +11,27 @@ use borrow.Author.Tests.{lt-ltb, le-leb}
 use Rattle.psn.proofs.Circle.{after-lt, back}
 use Rattle.word.specs.Word.{bit-at}
 use Rattle.rules.specs.Numbers.{turn, half, after, distance, size-ok, flags-ok}
-use Rattle.rules.specs.Outcome.{Outcome, refuse, left, answered}
-use Rattle.rules.specs.Receiver.{Receiver, judge, known, verdict, accept, sack-of, judged, arrive}
+use Rattle.promise.specs.Outcome.{Outcome, unless, left}
+use Rattle.rules.specs.Paper.{answered}
+use Rattle.rules.specs.Receiver.{Receiver, judge, known, verdict, accept, sack-of, judged}
+use Rattle.rules.specs.Receiving.{arrive-refusals, arrive}
+use Rattle.rules.specs.Sending.{step}
 use Rattle.lists.specs.Lists.{All}
 use Rattle.rules.specs.declared.Arrival.{Arrival}
+use Rattle.rules.specs.declared.Answer.{Answer}
 use Rattle.rules.specs.declared.Sack.{Sack}
 use Rattle.rules.specs.declared.Verdict.the-variants.{Fresh, Known}
-use Rattle.delivery.specs.Network.{Start, Packet, Fate, Message, Acks, accepts, message, Note, World, size-of, with-sender, heard}
-use Rattle.delivery.specs.Network.{on-hear, arrival, with-receiver, noted, reply, on-arrive, base-number, Near, Readable}
-use Rattle.delivery.specs.Network.{Run, still, sends, resends, timers, hears, arrives}
+use Rattle.delivery.specs.Wire.{Packet, Fate, arrival, Reply, Acks, hearing, accepts, message, Note, base-number, Near, Readable}
+use Rattle.delivery.specs.Network.{Start, Sides, Worlds, size-of, with-sender, with-receiver, acceptance, reply, on-arrive}
+use Rattle.delivery.specs.Network.{still, sends, resends, timers, hears, arrives, beside-sender, beside-receiver}
+use Rattle.delivery.specs.Network as network
+use Rattle.delivery.specs.Rules.{rules, World, Run}
 use Rattle.delivery.specs.Promise.{among, plain}
 use Rattle.delivery.specs.Sense.{Ended, CanEnd}
+use Rattle.delivery.proofs.Effects.{rule-hear, rule-arrive, noted, run-hear, run-arrive}
 use Rattle.delivery.proofs.Rooms.{room-some, room-few}
 use Rattle.delivery.proofs.Sets.{plus, plus-same, at-most, at-least}
-use Rattle.delivery.proofs.Bytes.{Sizes, sizeOf-older, sizeOf-newest}
+use Rattle.delivery.proofs.Bytes.{Sizes, size-of-older, size-of-newest}
 use Rattle.delivery.proofs.Holds.{Holds, receiver-used, Tells}
 use Rattle.delivery.proofs.Keeps.{place-moves}
 use Rattle.delivery.proofs.Taken.{sack-taken, sack-moves, near-ahead, bits-near-ahead}
@@ -32,13 +39,15 @@ use Rattle.delivery.proofs.Invariant.{Told, Inv, not-yet, not-ahead, in
 use Rattle.delivery.proofs.Order.{plain-arrives}
 
 -- a run from where another ends
-then : {u v w : World} → Run u v → Run v w → Run u w
+then : {n : Sides} {u v w : Worlds n} → network.Run n u v → network.Run n v w → network.Run n u w
 then r still = r
-then r (sends q z) = sends (then r q) z
-then r (resends q) = resends (then r q)
-then r (timers q p) = timers (then r q) p
-then r (hears q n m h) = hears (then r q) n m h
-then r (arrives q p m h f) = arrives (then r q) p m h f
+then r (sends q z a x g) = sends (then r q) z a x g
+then r (resends q a x g) = resends (then r q) a x g
+then r (timers q p a x g) = timers (then r q) p a x g
+then r (hears q m t h a x g) = hears (then r q) m t h a x g
+then r (arrives q p t h f a y g) = arrives (then r q) p t h f a y g
+then r (beside-sender q x g) = beside-sender (then r q) x g
+then r (beside-receiver q y g) = beside-receiver (then r q) y g
 
 -- the same packets, and the place further on
 record Onward (w v : World) : Type 0 where
@@ -51,7 +60,7 @@ module _ {s : Start} {w : World} (I : Inv s w) (n : Note) (there : List·Memᴰ 
     (b : Bool) (k : Sack) (reply-is : n .reply ≡ Acks b k) (ahead : w .low < n .here) where
   tells : Tells s (among (w .accepted)) (n .here) k
   unfolding Told
-  tells = subst (λ (q : Message). Told s (among (w .accepted)) (length (w .sent)) n q) reply-is (I .told n there)
+  tells = subst (λ (q : Reply). Told s (among (w .accepted)) (length (w .sent)) n q) reply-is (I .told n there)
 
   here-near : Near (n .here) (w .low)
   here-near = near-ahead (I .keeps) (I .bound) (n .here) k tells (omega arith)
@@ -61,18 +70,18 @@ module _ {s : Start} {w : World} (I : Inv s w) (n : Note) (there : List·Memᴰ 
 
   readable : Readable (w .low) n (n .reply)
   unfolding Readable
-  readable = subst (λ (q : Message). Readable (w .low) n q) (sym reply-is) (here-near, bits-near)
+  readable = subst (λ (q : Reply). Readable (w .low) n q) (sym reply-is) (here-near, bits-near)
 
-  low-moves : w .low < w .low + distance (w .sending .place) (heard (w .sending) (n .reply) .place)
-  unfolding heard left
+  low-moves : w .low < w .low + distance (w .sending .place) (left (w .sending) (step (w .sending) (hearing (n .reply))) .place)
+  unfolding step hearing left
   low-moves =
       let far = place-moves (I .keeps) (n .here) k tells here-near bits-near in
       rw (reply-is, sack-taken (I .keeps) (I .bound) (n .here) k tells here-near bits-near, far)
       (omega (arith, sack-moves (I .keeps) (I .bound) (n .here) k tells here-near bits-near ahead))
 
-  hear-on : Onward w (on-hear w n)
-  unfolding on-hear with-sender
-  hear-on = record { further = hears still n there readable; same-packets = refl; moved = low-moves }
+  hear-on : Onward w (rule-hear w n)
+  unfolding rule-hear with-sender
+  hear-on = record { further = run-hear still n there readable; same-packets = refl; moved = low-moves }
 
 -- where packet low is accepted, E is past it
 past : {s : Start} {w : World} → Inv s w → (i : ℕ) → i ≡ w .low → among (w .accepted) i ≡ true → i < w .at
@@ -89,14 +98,14 @@ size-sent : (l : List ℕ) (i : ℕ) → Sizes l → i < length l → size-ok (s
 unfolding All
 size-sent [] i k h = absurd (omega arith)
 size-sent (z ∷ l) i k h = elim (ℕ-discrete i (length l)) [
-  | yes e ↦ ap (λ (j : ℕ). size-ok (size-of (z ∷ l) j)) e ∙ ap size-ok (sizeOf-newest z l) ∙ k .0
-  | no e ↦ ap size-ok (sizeOf-older z l i (omega arith)) ∙ size-sent l i (k .1) (omega arith)
+  | yes e ↦ ap (λ (j : ℕ). size-ok (size-of (z ∷ l) j)) e ∙ ap size-ok (size-of-newest z l) ∙ k .0
+  | no e ↦ ap size-ok (size-of-older z l i (omega arith)) ∙ size-sent l i (k .1) (omega arith)
 ]
 
 -- what is behind E is known
 known-arrives : {s : Start} {A : ℕ → Bool} {r : Receiver} {at : ℕ} → Holds s A r at → (i z : ℕ) → size-ok z ≡ true → i < at → at ≤ i + half
     → arrive r (plain (after (s .first) i) z) ≡ judged r (plain (after (s .first) i) z) Known
-unfolding arrive plain bit-at flags-ok refuse verdict judge known
+unfolding arrive arrive-refusals unless plain bit-at flags-ok verdict judge known
 known-arrives {s} {r = r} {at = at} H i z good h near =
     let p : ℕ = after (s .first) i in
     let d : ℕ = distance (r .expected) p in
@@ -115,7 +124,7 @@ record Acked (w v : World) (i : ℕ) : Type 0 where
   sent-same : v .sent ≡ w .sent
   accepted : among (v .accepted) i ≡ true
 
-acked : (w : World) (r : Receiver) (l : List ℕ) (i : ℕ) (b : Bool) (k : Sack) → among l i ≡ true → Acked w (noted (with-receiver w r) l i (Acks b k)) i
+acked : (w : World) (r : Receiver) (l : List ℕ) (i : ℕ) (b : Bool) (k : Sack) → among l i ≡ true → Acked w (noted (with-receiver rules w r) l i (Acks b k)) i
 unfolding noted with-receiver
 acked w r l i b k e = record {
   note = record { reply = Acks b k; here = w .at + distance (w .receiving .expected) (r .expected); about = i };
@@ -138,8 +147,8 @@ module _ {s : Start} {w : World} (I : Inv s w) (p : Packet) (there : List·Mem�
   size-good : size-ok (p .size) ≡ true
   size-good = let C = I .carried p there in ap size-ok (C .size-is) ∙ size-sent (w .sent) (p .number) (I .sizes) (C .was-sent)
 
-  arrive-acked : (b : Bool) → among (w .accepted) (p .number) ≡ b → Acked w (on-arrive w p clean) (p .number)
-  unfolding on-arrive arrival clean plain bit-at reply message answered left judged accepts among plus with-receiver
+  arrive-acked : (b : Bool) → among (w .accepted) (p .number) ≡ b → Acked w (rule-arrive w p clean) (p .number)
+  unfolding rule-arrive on-arrive noted acceptance arrival clean plain bit-at reply message answered left judged accepts among plus with-receiver
   arrive-acked true e =
       let r = w .receiving in
       let i = p .number in
@@ -148,7 +157,7 @@ module _ {s : Start} {w : World} (I : Inv s w) (p : Packet) (there : List·Mem�
       let met : arrive r a ≡ judged r a Known =
       subst (λ (q : ℕ). arrive r (plain q z) ≡ judged r (plain q z) Known) (sym (I .carried p there .psn-is))
       (known-arrives (I .holds) i z size-good (past I i is e) (omega (arith, near))) in
-      subst (λ (o : Outcome Receiver). Acked w (reply (with-receiver w (left r o)) i (message (answered o))) i) (sym met)
+      subst (λ (o : Outcome Answer Receiver). Acked w (reply (with-receiver rules w (left r o)) i (message (answered o))) i) (sym met)
       (acked w r (w .accepted) i false (sack-of r a) e)
   arrive-acked false e =
       let r = w .receiving in
@@ -159,18 +168,18 @@ module _ {s : Start} {w : World} (I : Inv s w) (p : Packet) (there : List·Mem�
       let met : arrive r a ≡ judged r a Fresh =
       subst (λ (q : ℕ). arrive r (plain q z) ≡ judged r (plain q z) Fresh) (sym (I .carried p there .psn-is))
       (plain-arrives (I .holds) i z size-good e (omega (arith, not-ahead I, room-some (s .receive-room) (s .receive-good)))) in
-      subst (λ (o : Outcome Receiver). Acked w (reply (with-receiver w (left r o)) i (message (answered o))) i) (sym met)
+      subst (λ (o : Outcome Answer Receiver). Acked w (reply (with-receiver rules w (left r o)) i (message (answered o))) i) (sym met)
       (acked w (accept r a) (i ∷ w .accepted) i true (sack-of (accept r a) a) (plus-same i i (among (w .accepted)) refl))
 
   onward : (v : World) × Onward w v
   onward =
-      let u : World = on-arrive w p clean in
-      let run : Run w u = arrives still p there near clean in
+      let u : World = rule-arrive w p clean in
+      let run : Run w u = run-arrive still p there near clean in
       let J : Inv s u = inv-run I run in
       let K = arrive-acked (among (w .accepted) (p .number)) refl in
       let low = past J (p .number) (is ∙ sym (K .low-same)) (K .accepted) in
       let H = hear-on J (K .note) (K .there) (K .accepting) (K .answer) (K .reply-is) (omega (arith, K .here-is, low, K .low-same)) in (
-        on-hear u (K .note),
+        rule-hear u (K .note),
         record {
           further = then run (H .further);
           same-packets = H .same-packets ∙ K .sent-same;

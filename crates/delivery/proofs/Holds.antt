@@ -21,7 +21,8 @@ use Rattle.rules.specs.declared.Sack.{Sack}
 use Rattle.rules.specs.declared.Verdict.the-variants.{Fresh}
 use Rattle.lists.proofs.Joined.{or-false-each}
 use Rattle.lists.proofs.Lists.{lead-true, lead-false, lead-le, getD-alike, getD-slide, length-slide}
-use Rattle.delivery.specs.Network.{Start, Near, base-number}
+use Rattle.delivery.specs.Network.{Start}
+use Rattle.delivery.specs.Wire.{Near, base-number}
 use Rattle.rules.proofs.Packed.{bit-pack}
 use Rattle.delivery.proofs.Rooms.{room-used, room-few}
 use Rattle.delivery.proofs.Places.{past-one, moved}

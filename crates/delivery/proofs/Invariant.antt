@@ -12,30 +12,38 @@ use lib.ListN.{length, set}
 use borrow.Author.Tests.{leb-false, not-false}
 use Rattle.rules.specs.Numbers.{turn, after, distance, psn, size-ok, reason-ok, trimmed, trimmed-last-hop}
 use Rattle.lists.specs.Lists.{lead, update}
-use Rattle.rules.specs.Outcome.{Outcome, left, answered}
-use Rattle.rules.specs.Receiver.{Receiver, verdict, accept, sack-of, reason-of, nack-of, judged, arrive}
+use Rattle.promise.specs.Outcome.{Outcome, left}
+use Rattle.rules.specs.Paper.{answered}
+use Rattle.rules.specs.Receiver.{Receiver, verdict, accept, sack-of, reason-of, nack-of, judged}
+use Rattle.rules.specs.Receiving.{arrive}
+use Rattle.rules.specs.Receiving as receiving
 use Rattle.rules.specs.Receiver as receiver
-use Rattle.rules.specs.Sender.{Sender, outstanding, nth, next, with-entries, new, send}
+use Rattle.rules.specs.Sender.{Sender, outstanding, nth, next, with-entries, new, sent}
 use Rattle.rules.specs.Sender as sender
-use Rattle.rules.specs.Retire.{after-sack, sack}
-use Rattle.rules.specs.Marks.{with-mark, nearest, timer, nack, resend}
+use Rattle.rules.specs.Retire.{after-sack, acknowledged}
+use Rattle.rules.specs.Marks.{with-mark, nearest, resent}
+use Rattle.rules.specs.Sending.{send-refusals, send, sack, nack, timer, resend-refusals, resend, step}
 use Rattle.lists.specs.Lists.{All}
 use Rattle.rules.specs.declared.Arrival.{Arrival}
 use Rattle.rules.specs.declared.Sack.{Sack}
 use Rattle.rules.specs.declared.Nack.{Nack}
 use Rattle.rules.specs.declared.Verdict.{Verdict}
+use Rattle.rules.specs.declared.Answer.{Answer}
 use Rattle.rules.specs.declared.Verdict.the-variants.{Fresh, Known, Beyond, NoBuffer, Trim, TrimLastHop}
 use Rattle.lists.proofs.Joined.{never-true}
-use Rattle.rules.proofs.Outcomes.{through, After, after-refuse, after-done}
-use Rattle.delivery.specs.Network.{Start, Packet, Fate, Message, Silent, Goes, Acks, Nacks, accepts, message, Note, World, begin}
-use Rattle.delivery.specs.Network.{with-sender, put, on-send, size-of, again, on-resend, on-timer, heard, on-hear, arrival}
-use Rattle.delivery.specs.Network.{with-receiver, noted, reply, on-arrive, Near, Readable}
-use Rattle.delivery.specs.Network.{Run, still, sends, resends, timers, hears, arrives}
+use Rattle.promise.proofs.Refusing.{Past, through}
+use Rattle.promise.proofs.Outcomes.{After, after-unless, after-done}
+use Rattle.delivery.specs.Wire.{Packet, Fate, arrival, Reply, Acks, Nacks, hearing, Goes, accepts, message, Note, Near, Readable}
+use Rattle.delivery.specs.Network.{Start, with-sender, put, on-send, size-of, again, on-resend, with-receiver, acceptance, reply, on-arrive}
+use Rattle.delivery.specs.Network.{still, sends, resends, timers, hears, arrives, beside-sender, beside-receiver}
+use Rattle.delivery.specs.Network as network
+use Rattle.delivery.specs.Rules.{given, rules, World, Run, begin}
 use Rattle.delivery.specs.Promise.{among, Once}
+use Rattle.delivery.proofs.Effects.{rule-send, rule-resend, rule-timer, rule-hear, noted, rule-arrive}
 use Rattle.delivery.proofs.Rooms.{room-few}
 use Rattle.delivery.proofs.Places.{moved, stays}
 use Rattle.delivery.proofs.Sets.{at-least, plus, plus-other, plus-more}
-use Rattle.delivery.proofs.Bytes.{Sizes, total, total-plus, total-older, sizeOf-older, sizeOf-newest}
+use Rattle.delivery.proofs.Bytes.{Sizes, total, total-plus, total-older, size-of-older, size-of-newest}
 use Rattle.delivery.proofs.Holds.{Holds, fresh-holds, accept-holds, accept-few, Newcomer, newcomer, Tells, sack-tells}
 use Rattle.delivery.proofs.Keeps.{Keeps, nth-is, Quiet, quiet-self, quiet-update, quiet-timer, quiet-nack, keeps-quiet}
 use Rattle.delivery.proofs.Keeps.{keeps-more, keeps-send, next-number, keeps-sack, place-moves, fresh-rests, rest-keeps}
@@ -58,17 +66,13 @@ pub record Names (s : Start) (n about : ℕ) (k : Nack) : Type 0 where
   pub was-sent : about < n
   pub reason-good : reason-ok (k .reason) ≡ true
 
-unfoldable pub Told : Start → (ℕ → Bool) → ℕ → Note → Message → Type 0
-Told s A n note Silent = Unit {0}
-Told s A n note (Goes p) = Unit {0}
+unfoldable pub Told : Start → (ℕ → Bool) → ℕ → Note → Reply → Type 0
 Told s A n note (Acks b k) = Tells s A (note .here) k
 Told s A n note (Nacks k) = Names s n (note .about) k
 
 told-more : (s : Start) (A B : ℕ → Bool) (n m : ℕ) → ((j : ℕ) → A j ≡ true → B j ≡ true) → n ≤ m
-    → (note : Note) (q : Message) → Told s A n note q → Told s B m note q
+    → (note : Note) (q : Reply) → Told s A n note q → Told s B m note q
 unfolding Told
-told-more s A B n m more h note Silent T = tt
-told-more s A B n m more h note (Goes p) T = tt
 told-more s A B n m more h note (Acks b k) T = record {
   cack-is = T .cack-is;
   base-is = T .base-is;
@@ -89,7 +93,7 @@ pub record Inv (s : Start) (w : World) : Type 0 where
   pub told : (n : Note) → List·Memᴰ n (w .notes) → Told s (among (w .accepted)) (length (w .sent)) n (n .reply)
 
 inv-begin : (s : Start) → Inv s (begin s)
-unfolding begin receiver.fresh sender.fresh among total Once All
+unfolding begin network.begin receiver.fresh sender.fresh among total Once All
 inv-begin s = record {
   holds = fresh-holds s (among []) (λ j. refl);
   keeps = subst (λ (x : Sender). Keeps s (among []) 0 x 0) (sym (fresh-rests s)) (rest-keeps s (among []) 0 (λ i h. absurd (omega arith)));
@@ -112,7 +116,8 @@ module _ {s : Start} {w : World} (I : Inv s w) where
   not-ahead = at-least (I .holds .missing) (w .low) (I .keeps .below)
 
   -- ---- what the sender does
-  inv-sender : (x : Sender) → Keeps s (among (w .accepted)) (length (w .sent)) x (w .low + distance (w .sending .place) (x .place)) → Inv s (with-sender w x)
+  inv-sender : (x : Sender) → Keeps s (among (w .accepted)) (length (w .sent)) x (w .low + distance (w .sending .place) (x .place))
+      → Inv s (with-sender rules w x)
   unfolding with-sender
   inv-sender x K = record {
     holds = I .holds;
@@ -126,40 +131,36 @@ module _ {s : Start} {w : World} (I : Inv s w) where
     told = I .told;
   }
 
-  inv-quiet : (x : Sender) → Quiet (w .sending) x → Inv s (with-sender w x)
+  inv-quiet : (x : Sender) → Quiet (w .sending) x → Inv s (with-sender rules w x)
   inv-quiet x Q = inv-sender x (rw (stays (w .low) (w .sending .place) (x .place) (Q .place-same)) (keeps-quiet (I .keeps) x Q))
 
-  inv-idle : Inv s (with-sender w (w .sending))
+  inv-idle : Inv s (with-sender rules w (w .sending))
   inv-idle = inv-quiet (w .sending) (quiet-self (w .sending))
 
-  inv-timer : (p : ℕ) → Inv s (on-timer w p)
-  unfolding on-timer
+  inv-timer : (p : ℕ) → Inv s (rule-timer w p)
+  unfolding rule-timer
   inv-timer p = inv-quiet (left (w .sending) (timer (w .sending) (psn p))) (quiet-timer (w .sending) (psn p))
 
   inv-sack : (n : Note) (b : Bool) (k : Sack) → Tells s (among (w .accepted)) (n .here) k → Readable (w .low) n (Acks b k)
-      → Inv s (with-sender w (left (w .sending) (sack (w .sending) (k .cack) (k .block))))
-  unfolding sack Readable
+      → Inv s (with-sender rules w (left (w .sending) (sack (w .sending) (k .cack) (k .block))))
+  unfolding sack acknowledged Readable
   inv-sack n b k T R =
       let x = w .sending in
       let y : Sender = after-sack x (k .cack .0) (k .block) in
       let K = keeps-sack (I .keeps) (n .here) k T (R .0) (R .1) in
       let far = place-moves (I .keeps) (n .here) k T (R .0) (R .1) in
-      let P : Sender → Type 0 = λ z. Inv s (with-sender w z) in
-      let done : After P x (sack x (k .cack) (k .block)) =
-      after-refuse P x _ _ _ inv-idle λ _. after-refuse P x _ _ _ inv-idle λ _. after-refuse P x _ _ _ inv-idle λ _.
-      after-done P x _ _ (inv-sender y (rw far K)) in
+      let P : Sender → Type 0 = λ z. Inv s (with-sender rules w z) in
+      let done : After P x (sack x (k .cack) (k .block)) = after-unless P x _ _ inv-idle (λ _. after-done P x _ _ (inv-sender y (rw far K))) in
       done .holds
 
-  inv-heard : (n : Note) (q : Message) → Told s (among (w .accepted)) (length (w .sent)) n q → Readable (w .low) n q
-      → Inv s (with-sender w (heard (w .sending) q))
-  unfolding heard Told
-  inv-heard n Silent T R = inv-idle
-  inv-heard n (Goes p) T R = inv-idle
+  inv-heard : (n : Note) (q : Reply) → Told s (among (w .accepted)) (length (w .sent)) n q → Readable (w .low) n q
+      → Inv s (with-sender rules w (left (w .sending) (step (w .sending) (hearing q))))
+  unfolding step hearing Told
   inv-heard n (Acks b k) T R = inv-sack n b k T R
   inv-heard n (Nacks k) T R = inv-quiet (left (w .sending) (nack (w .sending) (k .psn) (k .reason))) (quiet-nack (w .sending) (k .psn) (k .reason))
 
-  inv-hear : (n : Note) → List·Memᴰ n (w .notes) → Readable (w .low) n (n .reply) → Inv s (on-hear w n)
-  unfolding on-hear
+  inv-hear : (n : Note) → List·Memᴰ n (w .notes) → Readable (w .low) n (n .reply) → Inv s (rule-hear w n)
+  unfolding rule-hear
   inv-hear n m R = inv-heard n (n .reply) (I .told n m) R
 
   -- a packet goes out: the new one, or one of those sent
@@ -171,7 +172,7 @@ module _ {s : Start} {w : World} (I : Inv s w) where
       → ((i : ℕ) → i < length (w .sent) → size-of l i ≡ size-of (w .sent) i)
       → Carries s l (packet q)
       → ((i : ℕ) → i < length l → length (w .sent) ≤ i → packet q .number ≡ i)
-      → Inv s (put (with-sender w x) l packet (Goes q))
+      → Inv s (put (with-sender rules w x) l packet (Goes q))
   unfolding put with-sender
   inv-goes x l packet q K longer bytes sizes older C newer = record {
     holds = I .holds;
@@ -194,35 +195,37 @@ module _ {s : Start} {w : World} (I : Inv s w) where
           let D = I .carried p m in
           record { psn-is = D .psn-is; was-sent = omega (arith, D .was-sent); size-is = D .size-is ∙ sym (older (p .number) (D .was-sent)) }
 
-  inv-send : (z : ℕ) → Inv s (on-send w z)
-  unfolding on-send send left answered message put with-entries All
+  inv-send : (z : ℕ) → Inv s (rule-send w z)
+  unfolding rule-send on-send send send-refusals sent left answered message put with-entries All Past
   inv-send z =
       let x = w .sending in
       let y : Sender = with-entries x (x .entries ++ (new z ∷ [])) in
       let packet : ℕ → Packet = λ p. record { number = length (w .sent); psn = p; size = z } in
-      let P : Outcome Sender → Type 0 = λ o. Inv s (put (with-sender w (left x o)) (z ∷ w .sent) packet (message (answered o))) in
-      through P _ _ _ inv-idle λ _. through P _ _ _ inv-idle λ good. through P _ _ _ inv-idle λ room.
+      let P : Outcome Answer Sender → Type 0 = λ o. Inv s (put (with-sender rules w (left x o)) (z ∷ w .sent) packet (message (answered o))) in
+      through P _ _ (λ _. inv-idle) λ past.
+      let good = past .1 .0 in
+      let room = past .1 .1 .0 in
       inv-goes y (z ∷ w .sent) packet (next x)
       (rw (stays (w .low) (x .place) (y .place) refl) (keeps-send (I .keeps) z (leb-false _ _ room))) (omega arith)
-      (total-older (among (w .accepted)) z (w .sent) not-yet) (not-false (size-ok z) good, I .sizes) (sizeOf-older z (w .sent))
-      (record { psn-is = next-number (I .keeps); was-sent = omega arith; size-is = sym (sizeOf-newest z (w .sent)) })
+      (total-older (among (w .accepted)) z (w .sent) not-yet) (not-false (size-ok z) good, I .sizes) (size-of-older z (w .sent))
+      (record { psn-is = next-number (I .keeps); was-sent = omega arith; size-is = sym (size-of-newest z (w .sent)) })
       (λ i h k. omega arith)
 
-  inv-resend : Inv s (on-resend w)
-  unfolding on-resend resend left answered message put again
+  inv-resend : Inv s (rule-resend w)
+  unfolding rule-resend on-resend resend resend-refusals resent left answered message put again Past
   inv-resend =
       let x = w .sending in
       let o : ℕ = nearest x in
       let y : Sender = with-entries x (update (with-mark false) (x .entries) o) in
       let Q = quiet-update x false o in
-      let P : Outcome Sender → Type 0 = λ o. Inv s (put (with-sender w (left x o)) (w .sent) (again w) (message (answered o))) in
-      through P _ _ _ inv-idle λ _. through P _ _ _ inv-idle λ some.
-      let few : o < outstanding x = leb-false _ _ some in
+      let P : Outcome Answer Sender → Type 0 = λ o. Inv s (put (with-sender rules w (left x o)) (w .sent) (again rules w) (message (answered o))) in
+      through P _ _ (λ _. inv-idle) λ past.
+      let few : o < outstanding x = leb-false _ _ (past .1 .0) in
       let small : o < turn = omega (arith, I .keeps .room-left, room-few (s .send-room) (s .send-good)) in
       let first : nth x 0 ≡ after (s .first) (w .low) = nth-is (I .keeps) 0 ∙ ap (after (s .first)) (omega arith) in
       let i-is : w .low + distance (nth x 0) (nth x o) ≡ w .low + o =
       ap (λ (d : ℕ). w .low + d) (moved (s .first) (w .low) o _ _ first (nth-is (I .keeps) o) small) in
-      inv-goes y (w .sent) (again w) (nth x o)
+      inv-goes y (w .sent) (again rules w) (nth x o)
       (rw (stays (w .low) (x .place) (y .place) (Q .place-same)) (keeps-quiet (I .keeps) y Q)) (omega arith)
       refl (I .sizes) (λ i h. refl)
       (record { psn-is = nth-is (I .keeps) o ∙ ap (after (s .first)) (sym i-is); was-sent = omega (arith, I .keeps .next-is); size-is = refl })
@@ -240,7 +243,7 @@ module _ {s : Start} {w : World} (I : Inv s w) where
   here-still : w .at + distance (w .receiving .expected) (w .receiving .expected) ≡ w .at
   here-still = stays (w .at) (w .receiving .expected) (w .receiving .expected) refl
 
-  inv-unread : Inv s (with-receiver w (w .receiving))
+  inv-unread : Inv s (with-receiver rules w (w .receiving))
   unfolding with-receiver
   inv-unread = record {
     holds = rw here-still (I .holds);
@@ -254,14 +257,14 @@ module _ {s : Start} {w : World} (I : Inv s w) where
     told = I .told;
   }
 
-  inv-noted : (r : Receiver) (l : List ℕ) (i : ℕ) (m : Message)
+  inv-noted : (r : Receiver) (l : List ℕ) (i : ℕ) (m : Reply)
       → Holds s (among l) r (w .at + distance (w .receiving .expected) (r .expected))
       → ((j : ℕ) → among (w .accepted) j ≡ true → among l j ≡ true)
       → ((j : ℕ) → among l j ≡ true → j < length (w .sent))
       → r .count ≡ total (among l) (w .sent) % 2 ^ 32
       → Once l
       → Told s (among l) (length (w .sent)) (record { reply = m; here = w .at + distance (w .receiving .expected) (r .expected); about = i }) m
-      → Inv s (noted (with-receiver w r) l i m)
+      → Inv s (noted (with-receiver rules w r) l i m)
   unfolding noted with-receiver
   inv-noted r l i m H more bound counted once T = record {
     holds = H;
@@ -282,14 +285,14 @@ module _ {s : Start} {w : World} (I : Inv s w) where
       told n (inr y) = told-more s (among (w .accepted)) (among l) (length (w .sent)) (length (w .sent)) more (omega arith) n (n .reply) (I .told n y)
 
   -- nothing is accepted
-  inv-same : (i : ℕ) (m : Message)
+  inv-same : (i : ℕ) (m : Reply)
       → Told s (among (w .accepted)) (length (w .sent)) (record { reply = m; here = w .at; about = i }) m
-      → Inv s (noted (with-receiver w (w .receiving)) (w .accepted) i m)
+      → Inv s (noted (with-receiver rules w (w .receiving)) (w .accepted) i m)
   inv-same i m T = inv-noted (w .receiving) (w .accepted) i m (rw here-still (I .holds)) (λ j e. e) (I .bound) (I .counted) (I .once) (rw here-still T)
 
   module _ (p : Packet) (C : Carries s (w .sent) p) (near : Near (p .number) (w .at)) (f : Fate) where
     inv-fresh : verdict (w .receiving) (arrival p f) ≡ Fresh
-        → Inv s (noted (with-receiver w (accept (w .receiving) (arrival p f))) (p .number ∷ w .accepted) (p .number)
+        → Inv s (noted (with-receiver rules w (accept (w .receiving) (arrival p f))) (p .number ∷ w .accepted) (p .number)
         (Acks true (sack-of (accept (w .receiving) (arrival p f)) (arrival p f))))
     unfolding arrival Told among plus Once
     inv-fresh e =
@@ -321,8 +324,8 @@ module _ {s : Start} {w : World} (I : Inv s w) where
     names v good = record { psn-is = C .psn-is; was-sent = C .was-sent; reason-good = good }
 
     inv-judged : (v : Verdict) → verdict (w .receiving) (arrival p f) ≡ v
-        → let o = judged (w .receiving) (arrival p f) v in Inv s (reply (with-receiver w (left (w .receiving) o)) (p .number) (message (answered o)))
-    unfolding judged left answered message accepts reply with-receiver Told reason-of reason-ok
+        → let o = judged (w .receiving) (arrival p f) v in Inv s (reply (with-receiver rules w (left (w .receiving) o)) (p .number) (message (answered o)))
+    unfolding judged left answered message accepts reply acceptance noted with-receiver Told reason-of reason-ok
     inv-judged Fresh e = inv-fresh e
     inv-judged Known e = inv-same (p .number) _ (sack-tells (I .holds) (arrival p f))
     inv-judged Beyond e = inv-same (p .number) _ (names Beyond refl)
@@ -330,20 +333,22 @@ module _ {s : Start} {w : World} (I : Inv s w) where
     inv-judged Trim e = inv-same (p .number) _ (names Trim refl)
     inv-judged TrimLastHop e = inv-same (p .number) _ (names TrimLastHop refl)
 
-    inv-arrive : Inv s (on-arrive w p f)
-    unfolding on-arrive arrive left answered message reply
+    inv-arrive : Inv s (rule-arrive w p f)
+    unfolding rule-arrive on-arrive arrive left answered message reply
     inv-arrive =
-        let P : Outcome Receiver → Type 0 = λ o. Inv s (reply (with-receiver w (left (w .receiving) o)) (p .number) (message (answered o))) in
-        through P _ _ _ inv-unread λ _. through P _ _ _ inv-unread λ _. through P _ _ _ inv-unread λ _. through P _ _ _ inv-unread λ _.
-        inv-judged (verdict (w .receiving) (arrival p f)) refl
+        let P : Outcome Answer Receiver → Type 0 = λ o. Inv s (reply (with-receiver rules w (left (w .receiving) o)) (p .number) (message (answered o))) in
+        through P _ _ (λ _. inv-unread) (λ _. inv-judged (verdict (w .receiving) (arrival p f)) refl)
 
 pub inv-run : {s : Start} {v w : World} → Inv s v → Run v w → Inv s w
+unfolding rule-send rule-resend rule-timer rule-hear rule-arrive step receiving.step
 inv-run I still = I
-inv-run I (sends r z) = inv-send (inv-run I r) z
-inv-run I (resends r) = inv-resend (inv-run I r)
-inv-run I (timers r p) = inv-timer (inv-run I r) p
-inv-run I (hears r n m h) = inv-hear (inv-run I r) n m h
-inv-run I (arrives r p m h f) = let J = inv-run I r in inv-arrive J p (J .carried p m) h f
+inv-run I (sends r z a x given) = inv-send (inv-run I r) z
+inv-run I (resends r a x given) = inv-resend (inv-run I r)
+inv-run I (timers r p a x given) = inv-timer (inv-run I r) p
+inv-run I (hears r n m h a x given) = inv-hear (inv-run I r) n m h
+inv-run I (arrives r p m h f a q given) = let J = inv-run I r in inv-arrive J p (J .carried p m) h f
+inv-run I (beside-sender r x e) = absurd e
+inv-run I (beside-receiver r q e) = absurd e
 
 pub invariant : {s : Start} {w : World} → Run (begin s) w → Inv s w
 invariant {s} r = inv-run (inv-begin s) r

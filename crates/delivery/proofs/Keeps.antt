@@ -16,17 +16,19 @@ use Rattle.psn.proofs.Circle.{after-zero, after-after, lands}
 use Rattle.word.specs.Word.{bit-at}
 use Rattle.rules.specs.Numbers.{turn, after, before, distance}
 use Rattle.lists.specs.Lists.{lead, update}
-use Rattle.rules.specs.Outcome.{left}
+use Rattle.promise.specs.Outcome.{left}
 use Rattle.rules.specs.Sender.{Entry, Sender, outstanding, nth, next, unused, fresh, with-entries, new, index}
 use Rattle.rules.specs.Retire.{is-retired, retired, retire, named, up-to, has-bit, settle, after-sack}
-use Rattle.rules.specs.Marks.{with-mark, markable, mark, timer, nack}
+use Rattle.rules.specs.Marks.{with-mark, markable, mark, nacked}
+use Rattle.rules.specs.Sending.{timer, nack}
 use Rattle.rules.specs.declared.Answer.{Answer}
 use Rattle.rules.specs.declared.Answer.the-variants as answer
 use Rattle.rules.specs.declared.Sack.{Sack}
 use Rattle.lists.proofs.Joined.{and-true-each}
 use Rattle.lists.proofs.Lists.{lead-true, lead-false, lead-le, length-update, map-update}
-use Rattle.rules.proofs.Outcomes.{After, after-refuse, after-cond, after-done}
-use Rattle.delivery.specs.Network.{Start, Near, base-number}
+use Rattle.promise.proofs.Outcomes.{After, after-unless, after-cond, after-done}
+use Rattle.delivery.specs.Network.{Start}
+use Rattle.delivery.specs.Wire.{Near, base-number}
 use Rattle.delivery.specs.Promise.{retired-at}
 use Rattle.delivery.proofs.Rooms.{room-used, room-few}
 use Rattle.delivery.proofs.Places.{past-before, before-on, place-moved}
@@ -72,17 +74,16 @@ pub quiet-timer : (x : Sender) (p : Psn) → Quiet x (left x (timer x p))
 unfolding timer
 quiet-timer x p =
     let Q = quiet-self x in
-    let all : After (Quiet x) x (timer x p) =
-    after-refuse (Quiet x) x _ _ _ Q λ _. after-refuse (Quiet x) x _ _ _ Q λ _. after-refuse (Quiet x) x _ _ _ Q λ _. quiet-mark answer.Expired x (p .0) in
+    let all : After (Quiet x) x (timer x p) = after-unless (Quiet x) x _ _ Q (λ _. quiet-mark answer.Expired x (p .0)) in
     all .holds
 
 pub quiet-nack : (x : Sender) (p : Psn) (reason : ℕ) → Quiet x (left x (nack x p reason))
-unfolding nack
+unfolding nack nacked
 quiet-nack x p reason =
     let Q = quiet-self x in
     let all : After (Quiet x) x (nack x p reason) =
-    after-refuse (Quiet x) x _ _ _ Q λ _. after-refuse (Quiet x) x _ _ _ Q λ _. after-refuse (Quiet x) x _ _ _ Q λ _. after-refuse (Quiet x) x _ _ _ Q λ _.
-    after-cond (Quiet x) x (leb reason 4) _ _ (λ _. quiet-mark answer.Marked x (p .0)) (λ _. after-done (Quiet x) x _ _ Q) in
+    after-unless (Quiet x) x _ _ Q
+    (λ _. after-cond (Quiet x) x (leb reason 4) _ _ (λ _. quiet-mark answer.Marked x (p .0)) (λ _. after-done (Quiet x) x _ _ Q)) in
     all .holds
 
 module _ {s : Start} {A : ℕ → Bool} {n : ℕ} {x : Sender} {low : ℕ} (K : Keeps s A n x low) where
@@ -269,14 +270,14 @@ rest-keeps s A n below = record {
   first-open = refl;
 }
 
-none-left : {B : Type 0} (l : List B) → length l ≡ 0 → l ≡ []
-none-left [] h = refl
-none-left (b ∷ l) h = absurd (omega arith)
+no-entries : {B : Type 0} (l : List B) → length l ≡ 0 → l ≡ []
+no-entries [] h = refl
+no-entries (b ∷ l) h = absurd (omega arith)
 
 pub keeps-rests : {s : Start} {A : ℕ → Bool} {n : ℕ} {x : Sender} {low : ℕ} → Keeps s A n x low → outstanding x ≡ 0 → x ≡ rest s n
 unfolding rest
 keeps-rests {s} {n = n} {x = x} {low = low} K none =
     let low-is : low ≡ n = omega (arith, K .next-is) in
     let place : x .place ≡ before (after (s .first) n) = K .place-is ∙ ap (λ (i : ℕ). before (after (s .first) i)) low-is in
-    let entries : x .entries ≡ [] = none-left (x .entries) none in
+    let entries : x .entries ≡ [] = no-entries (x .entries) none in
     λ i. record { room = K .room-is i; place = place i; entries = entries i }

@@ -5,6 +5,7 @@ pub mod Sets
 pub mod Holds
 pub mod Keeps
 pub mod Bytes
+pub mod Effects
 pub mod Invariant
 pub mod Order
 pub mod Taken
@@ -14,3 +15,4 @@ pub mod Begins
 pub mod Never
 pub mod CanEnd
 pub mod Example
+pub mod Following

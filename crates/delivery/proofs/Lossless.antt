@@ -8,15 +8,18 @@ use native.Mathlib.Decide.{decLt}
 use lib.ListN.{length}
 use borrow.Author.Tests.{lt-leb}
 use Rattle.rules.specs.Numbers.{after, size-ok}
-use Rattle.rules.specs.Outcome.{refuse, left, answered}
-use Rattle.rules.specs.Receiver.{Receiver, accept, sack-of, judged, arrive}
-use Rattle.rules.specs.Sender.{Sender, with-entries, new, send}
-use Rattle.rules.specs.Retire.{sack}
+use Rattle.promise.specs.Outcome.{unless, left}
+use Rattle.rules.specs.Paper.{answered}
+use Rattle.rules.specs.Receiver.{Receiver, accept, sack-of, judged}
+use Rattle.rules.specs.Receiving.{arrive}
+use Rattle.rules.specs.Sender.{Sender, with-entries, new, sent}
+use Rattle.rules.specs.Sending.{send-refusals, send, sack, step}
 use Rattle.lists.specs.Lists.{All}
 use Rattle.rules.specs.declared.Arrival.{Arrival}
 use Rattle.rules.specs.declared.Sack.{Sack}
-use Rattle.delivery.specs.Network.{Start, accepts, message, heard}
-use Rattle.delivery.specs.Promise.{plain, ascending, lossless}
+use Rattle.delivery.specs.Network.{Start}
+use Rattle.delivery.specs.Wire.{accepts, message, hearing}
+use Rattle.delivery.specs.Promise.{plain, ascending, heard, lossless}
 use Rattle.delivery.proofs.Rooms.{room-some}
 use Rattle.delivery.proofs.Sets.{all, Missing, only-one, only, only-in, only-out}
 use Rattle.delivery.proofs.Bytes.{Sizes}
@@ -64,7 +67,7 @@ module _ (s : Start) where
     resting = rest-keeps s (only n all) n (below-n n)
 
     send-one : left (rest s n) (send (rest s n) z) ≡ out
-    unfolding send left refuse rest
+    unfolding send send-refusals unless sent left rest
     send-one = rw (sender-used resting, good, lt-leb (s .send-room) 0 (room-some (s .send-room) (s .send-good)))
 
     sent-one : Keeps s (only (suc n) all) (suc n) out n
@@ -87,7 +90,7 @@ module _ (s : Start) where
     one-more : (x : Sender) (r : Receiver) → x ≡ rest s n → Holds s (only n all) r n
         → Holds s (only (suc n) all) (left r (arrive r (plain (after (s .first) n) z))) (suc n)
         → heard (left x (send x z)) (message (answered (arrive r (plain (after (s .first) n) z)))) ≡ rest s (suc n)
-    unfolding left heard message answered accepts judged
+    unfolding left heard hearing step message answered accepts judged
     one-more x r rests H G =
         let a : Arrival = plain (after (s .first) n) z in
         let met = plain-arrives H n z good (only-out n all n (omega arith)) (omega (arith, room-some (s .receive-room) (s .receive-good))) in

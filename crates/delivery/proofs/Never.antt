@@ -7,8 +7,11 @@ use lib.ListN.{length}
 use borrow.Author.Tests.{leb-true}
 use Rattle.rules.specs.Numbers.{distance, trimmed, trimmed-last-hop, no-buffer}
 use Rattle.rules.specs.Receiver.{room, judge, known, beyond, verdict}
+use Rattle.rules.specs.Sending.{step}
 use Rattle.rules.specs.declared.Verdict.the-variants.{Beyond}
-use Rattle.delivery.specs.Network.{Start, Message, Silent, Goes, Acks, Nacks, Note, World, arrival, Readable}
+use Rattle.delivery.specs.Wire.{Reply, Acks, Nacks, hearing, Note, arrival, Readable}
+use Rattle.delivery.specs.Network.{Start}
+use Rattle.delivery.specs.Rules.{World}
 use Rattle.delivery.specs.Promise.{among}
 use Rattle.delivery.specs.Sense.{NeverBeyond, Taken, NeverRefused}
 use Rattle.delivery.proofs.Holds.{not-known}
@@ -35,11 +38,9 @@ never-beyond s w run p m near f e =
     let far = leb-true (room r) (distance (r .expected) (p .psn)) (g .1) in
     omega (arith, N .number, not-ahead I, I .holds .room-is, I .keeps .next-is, I .keeps .room-left, C .was-sent, s .no-larger)
 
-taken : {s : Start} {w : World} → Inv s w → (n : Note) (q : Message) → Told s (among (w .accepted)) (length (w .sent)) n q
+taken : {s : Start} {w : World} → Inv s w → (n : Note) (q : Reply) → Told s (among (w .accepted)) (length (w .sent)) n q
     → Readable (w .low) n q → Taken (w .sending) q
-unfolding Told Readable Taken
-taken I n Silent T R = tt
-taken I n (Goes p) T R = tt
+unfolding Told Readable step hearing
 taken I n (Acks b k) T R = (_, _, sack-taken (I .keeps) (I .bound) (n .here) k T (R .0) (R .1))
 taken I n (Nacks k) T R = nack-taken (I .keeps) (n .about) (k .psn) (k .reason) (T .psn-is) (T .was-sent) R (T .reason-good)
 

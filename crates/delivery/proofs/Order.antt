@@ -14,8 +14,9 @@ use Rattle.psn.proofs.Circle.{after-lt, ahead}
 use Rattle.word.specs.Word.{bit-at}
 use Rattle.rules.specs.Numbers.{turn, half, after, distance, size-ok, flags-ok}
 use Rattle.lists.specs.Lists.{lead}
-use Rattle.rules.specs.Outcome.{refuse, left}
-use Rattle.rules.specs.Receiver.{Receiver, room, fresh, judge, known, beyond, verdict, accept, judged, arrive}
+use Rattle.promise.specs.Outcome.{unless, left}
+use Rattle.rules.specs.Receiver.{Receiver, room, fresh, judge, known, beyond, verdict, accept, judged}
+use Rattle.rules.specs.Receiving.{arrive-refusals, arrive}
 use Rattle.lists.specs.Lists.{All}
 use Rattle.rules.specs.declared.Verdict.the-variants.{Fresh}
 use Rattle.lists.proofs.Joined.{never-true}
@@ -56,7 +57,7 @@ module _ {s : Start} {A : ℕ → Bool} {r : Receiver} {at : ℕ} (H : Holds s A
       rw (lt-leb half d (omega arith), H .window-is d ∙ ap A (omega arith) ∙ new, lt-leb (room r) d (omega (arith, H .room-is)))
 
   pub plain-arrives : arrive r (plain (after (s .first) i) z) ≡ judged r (plain (after (s .first) i) z) Fresh
-  unfolding arrive plain bit-at flags-ok refuse
+  unfolding arrive arrive-refusals unless plain bit-at flags-ok
   plain-arrives =
       rw (receiver-used H, lt-ltb (after (s .first) i) turn (after-lt (s .first) i), good)
       (ap (judged r (plain (after (s .first) i) z)) plain-fresh)

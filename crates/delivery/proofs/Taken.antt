@@ -14,13 +14,15 @@ use Rattle.psn.specs.declared.Psn.{Psn}
 use Rattle.word.specs.Word.{bit-at}
 use Rattle.rules.specs.Numbers.{turn, half, after, distance, reason-ok}
 use Rattle.lists.specs.Lists.{lead}
-use Rattle.rules.specs.Outcome.{Outcome, Done, refuse}
+use Rattle.promise.specs.Outcome.{Outcome, Done, unless}
 use Rattle.rules.specs.Sender.{Entry, Sender, outstanding, nth, index, unsent}
-use Rattle.rules.specs.Retire.{is-retired, retire, named, up-to, unsent-cack, unsent-bit, names-unsent, after-sack, report, sack}
-use Rattle.rules.specs.Marks.{markable, mark, nack}
+use Rattle.rules.specs.Retire.{is-retired, retire, named, up-to, unsent-cack, unsent-bit, names-unsent, after-sack, report, acknowledged}
+use Rattle.rules.specs.Marks.{markable, mark, nacked}
+use Rattle.rules.specs.Sending.{sack-refusals, sack, nack-refusals, nack}
 use Rattle.rules.specs.declared.Answer.{Answer}
 use Rattle.rules.specs.declared.Sack.{Sack}
-use Rattle.delivery.specs.Network.{Start, Near, base-number}
+use Rattle.delivery.specs.Network.{Start}
+use Rattle.delivery.specs.Wire.{Near, base-number}
 use Rattle.lists.proofs.Lists.{any-none}
 use Rattle.delivery.proofs.Rooms.{room-few}
 use Rattle.delivery.proofs.Holds.{Tells}
@@ -35,10 +37,10 @@ unfolding retire lead
 retire-first f [] h e = absurd (omega arith)
 retire-first f (x ∷ l) h e = rw e (omega arith)
 
-abbrev pub IsDone : Outcome Sender → Type 0
+abbrev pub IsDone : Outcome Answer Sender → Type 0
 IsDone o = (y : Sender) × (a : Answer) × (o ≡ Done y a)
 
-either-done : (b : Bool) (o q : Outcome Sender) → IsDone o → IsDone q → IsDone (cond b o q)
+either-done : (b : Bool) (o q : Outcome Answer Sender) → IsDone o → IsDone q → IsDone (cond b o q)
 either-done true o q h k = h
 either-done false o q h k = k
 
@@ -62,7 +64,7 @@ module _ {s : Start} {A : ℕ → Bool} {n : ℕ} {x : Sender} {low : ℕ} (K : 
 
   -- ---- NACK
   pub nack-taken : (i : ℕ) (p : Psn) (reason : ℕ) → p .0 ≡ after (s .first) i → i < n → Near (i + 1) low → reason-ok reason ≡ true → IsDone (nack x p reason)
-  unfolding nack refuse mark
+  unfolding nack nack-refusals unless nacked mark
   nack-taken i p reason is h near good =
       rw (sender-used K, psn-good (p .0) (s .first) i is, good, was-sent i (p .0) is h near)
       (either-done (leb reason 4) _ _ (either-done (getD (map markable (x .entries)) (index x (p .0)) false) _ _ (_, _, refl) (_, _, refl)) (_, _, refl))
@@ -107,7 +109,7 @@ module _ {s : Start} {A : ℕ → Bool} {n : ℕ} {x : Sender} {low : ℕ} (K : 
       all-sent = rw cack-sent (any-none 64 _ (λ j h. not-both (bit-at (k .block .bitmap) j) _ (bit-sent j h)))
 
       pub sack-taken : sack x (k .cack) (k .block) ≡ Done (after-sack x (k .cack .0) (k .block)) (report x (k .cack .0) (k .block))
-      unfolding sack refuse
+      unfolding sack sack-refusals unless acknowledged
       sack-taken = rw (sender-used K, psn-good (k .cack .0) (s .first) _ cack-at, psn-good (k .block .base .0) (s .first) _ (T .base-is), all-sent)
 
       pub sack-moves : low < here → 0 < moves x k

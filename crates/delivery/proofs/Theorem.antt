@@ -8,10 +8,12 @@ use native.Mathlib.Omega.{arith}
 use native.Mathlib.Decide.{decLt}
 use lib.ListN.{length}
 use Rattle.rules.specs.Numbers.{after}
-use Rattle.rules.specs.Outcome.{left}
-use Rattle.rules.specs.Receiver.{Receiver, arrive}
+use Rattle.promise.specs.Outcome.{left}
+use Rattle.rules.specs.Receiver.{Receiver}
+use Rattle.rules.specs.Receiving.{arrive}
 use Rattle.rules.specs.Sender.{outstanding}
-use Rattle.delivery.specs.Network.{Start, World}
+use Rattle.delivery.specs.Network.{Start}
+use Rattle.delivery.specs.Rules.{World}
 use Rattle.delivery.specs.Promise.{among, plain, ascending, lossless, retired-at, Demand3}
 use Rattle.delivery.proofs.Sets.{all}
 use Rattle.delivery.proofs.Keeps.{keeps-rests}

@@ -6,14 +6,20 @@ use Prim.Native.Nat.{ℕ, _+_, _<_}
 use lib.Dec.{eqb}
 use lib.ListN.{length, getD}
 use Rattle.rules.specs.Numbers.{after, before, psn}
-use Rattle.rules.specs.Outcome.{left, answered}
-use Rattle.rules.specs.Receiver.{Receiver, arrive}
+use Rattle.promise.specs.Outcome.{left}
+use Rattle.rules.specs.Paper.{answered}
+use Rattle.rules.specs.Receiver.{Receiver}
 use Rattle.rules.specs.Receiver as receiver
-use Rattle.rules.specs.Sender.{Sender, outstanding, send}
+use Rattle.rules.specs.Receiving.{arrive}
+use Rattle.rules.specs.Sender.{Sender, outstanding}
 use Rattle.rules.specs.Sender as sender
+use Rattle.rules.specs.Sending.{send, step}
 use Rattle.rules.specs.Retire.{is-retired}
 use Rattle.rules.specs.declared.Arrival.{Arrival}
-use Rattle.delivery.specs.Network.{Start, World, message, heard, begin, Run}
+use Rattle.delivery.specs.Network.{Start, opening, Sides, Worlds, meant}
+use Rattle.delivery.specs.Network as network
+use Rattle.delivery.specs.Wire.{Message, Silent, Goes, Replies, message, hearing}
+use Rattle.delivery.specs.Rules.{World, Run, begin}
 
 -- is i among the numbers
 unfoldable pub among : List ℕ → ℕ → Bool
@@ -35,6 +41,12 @@ ascending s A [] = receiver.fresh (s .receive-room) (s .first)
 ascending s A (z ∷ l) =
     let r = ascending s A l in
     cond (A (length l)) (left r (arrive r (plain (after (s .first) (length l)) z))) r
+
+-- the sender after a message reaches it
+unfoldable pub heard : Sender → Message → Sender
+heard x Silent = x
+heard x (Goes p) = x
+heard x (Replies r) = left x (step x (hearing r))
 
 -- "a run of the same packets, one at a time and without loss": a packet is sent, arrives, and its reply is heard
 unfoldable pub lossless : Start → List ℕ → Sender × Receiver
@@ -67,3 +79,14 @@ pub record Promise (s : Start) (w : World) : Type 0 where
 -- demand 3
 abbrev pub Demand3 : Type 0
 Demand3 = (s : Start) (w : World) → Run (begin s) w → Promise s w
+
+-- ---- the same of any two sides, whose records mean the rules': their world is one of the rules' runs, and so the promise is kept
+pub record Kept (s : Start) (w : World) : Type 0 where
+  pub run : Run (begin s) w
+  pub promise : Promise s w
+
+abbrev pub Keep : (n : Sides) → (n .sender .State → Sender) → (n .receiver .State → Receiver) → Type 0
+Keep n sends receives =
+    (s : Start) (x : n .sender .State) (r : n .receiver .State)
+    → n .sender .Begins (opening s (s .send-room)) x → n .receiver .Begins (opening s (s .receive-room)) r
+    → (w : Worlds n) → network.Run n (network.begin x r) w → Kept s (meant sends receives w)

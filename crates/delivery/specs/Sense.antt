@@ -1,14 +1,15 @@
 -- That demand 3 says something: what a run never meets, and that every run can be brought to its end.
 use mathlib.Core.Path.{_≡_}
 use mathlib.Core.List.{List·Memᴰ}
-use Rattle.rules.specs.Outcome.{Done}
+use Rattle.promise.specs.Outcome.{Done}
 use Rattle.rules.specs.Receiver.{verdict}
 use Rattle.rules.specs.Sender.{Sender, outstanding}
-use Rattle.rules.specs.Retire.{sack}
-use Rattle.rules.specs.Marks.{nack}
+use Rattle.rules.specs.Sending.{step}
 use Rattle.rules.specs.declared.Answer.{Answer}
 use Rattle.rules.specs.declared.Verdict.the-variants.{Beyond}
-use Rattle.delivery.specs.Network.{Start, Packet, Fate, Message, Silent, Goes, Acks, Nacks, Note, World, begin, arrival, Near, Readable, Run}
+use Rattle.delivery.specs.Network.{Start}
+use Rattle.delivery.specs.Wire.{Packet, Fate, Reply, hearing, Note, arrival, Near, Readable}
+use Rattle.delivery.specs.Rules.{World, Run, begin}
 
 -- no packet of a run is beyond the receiver's window, so no NACK of a run has reason 3
 abbrev pub NeverBeyond : Type 0
@@ -17,11 +18,8 @@ NeverBeyond =
     → verdict (w .receiving) (arrival p f) ≡ Beyond → ⊥
 
 -- a reply is done, and not refused
-unfoldable pub Taken : Sender → Message → Type 0
-Taken x Silent = Unit {0}
-Taken x (Goes p) = Unit {0}
-Taken x (Acks b k) = (y : Sender) × (a : Answer) × (sack x (k .cack) (k .block) ≡ Done y a)
-Taken x (Nacks k) = (y : Sender) × (a : Answer) × (nack x (k .psn) (k .reason) ≡ Done y a)
+abbrev pub Taken : Sender → Reply → Type 0
+Taken x r = (y : Sender) × (a : Answer) × (step x (hearing r) ≡ Done y a)
 
 -- no reply of a run is refused
 abbrev pub NeverRefused : Type 0

@@ -6,21 +6,23 @@ use native.Mathlib.Omega.{arith}
 use lib.ListN.{length, take, drop, length-drop}
 use lib.Seq.{length-take-le, drop-at, drop-drop, take-add}
 use Rattle.rules.specs.Numbers.{longest-log}
-use Rattle.rules.specs.Paper.{kind-of, fields-of, read-line}
-use Rattle.rules.specs.Log.{widths, Fits, encode, read, body, write, written}
+use Rattle.fields.specs.Fields.{Bytes}
+use Rattle.rules.specs.Kinds.{kind-of}
+use Rattle.rules.specs.Paper.{read-line}
+use Rattle.rules.specs.Log.{encode, read, body, write, written}
 use Rattle.rules.specs.declared.Event.{Event}
 use Rattle.rules.specs.declared.Read.{Read}
 use Rattle.rules.specs.declared.Read.the-variants.{Record}
 use Rattle.rules.specs.declared.Written.{Written}
 use Rattle.rules.specs.declared.Written.the-variants.{Length}
-use Rattle.rules.proofs.Spelling.{Bytes}
+use Rattle.rules.proofs.Records.{Wide}
 use Rattle.rules.proofs.RoundTrip.{write-read, read-kind, read-encode, read-write}
 use Rattle.rules.proofs.Apart.{reads-apart, writes-apart}
 use Rattle.event_log.specs.Parts.{Writes}
 
 -- "A log record written is read back as the same event"
 pub written-read : (slot : ℕ) (e : Event) (before after : List ℕ) (r : Written) (n : ℕ) (x : Read) → Writes slot e before r after → r ≡ Length n
-    → Fits (widths (kind-of e)) (fields-of e) → length before ≤ longest-log → read-line x ≡ read-line (read after 0) → x ≡ Record slot e (kind-of e) n
+    → Wide e → length before ≤ longest-log → read-line x ≡ read-line (read after 0) → x ≡ Record slot e (kind-of e) n
 written-read slot e before after r n x p r-is f l h =
     let w : write e (length before) ≡ Length n = sym (writes-apart r (write e (length before)) (p .answer-is)) ∙ r-is in
     let b : after ≡ written slot e before (Length n) = p .bytes-are ∙ ap (written slot e before) w in

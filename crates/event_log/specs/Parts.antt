@@ -1,21 +1,21 @@
 -- What the functions of the log promise one another, and what writing promises.
 use mathlib.Core.Path.{_≡_}
 use mathlib.Core.List.{List}
-use Prim.Native.Nat.{ℕ, _<_, _^_}
-use lib.ListN.{length, getD}
-use Rattle.lists.specs.Index.{table}
+use Prim.Native.Nat.{ℕ}
+use lib.ListN.{length, drop}
+use Rattle.fields.specs.Fields.{decode}
+use Rattle.rules.specs.Numbers.{record-head}
+use Rattle.rules.specs.Kinds.{widths}
 use Rattle.rules.specs.Paper.{written-line}
 use Rattle.rules.specs.Log.{write, written}
 use Rattle.rules.specs.declared.Event.{Event}
 use Rattle.rules.specs.declared.Written.{Written}
+use Rattle.kinds.specs.Padded.{padded, FitsAll}
 
--- as many fields as the code has room for, 0 past the last
-unfoldable pub padded : List ℕ → List ℕ
-padded l = table 4 (λ i. getD l i 0)
-
--- each field fits its width
-abbrev pub FitsAll : List ℕ → List ℕ → Type 0
-FitsAll ws vs = (i : ℕ) → getD vs i 0 < 256 ^ getD ws i 0
+-- the values of a record's fields, each of which fits
+pub record Holds (l : List ℕ) (kind : ℕ) (v : List ℕ) : Type 0 where
+  pub values-are : v ≡ padded (decode (widths kind) (drop record-head l))
+  pub fit : FitsAll (widths kind) v
 
 -- the answer on paper, and every byte after: a refusal leaves each as it was
 pub record Writes (slot : ℕ) (e : Event) (before : List ℕ) (r : Written) (after : List ℕ) : Type 0 where

@@ -7,18 +7,16 @@ use native.Mathlib.Numerals.{add-one}
 use native.Mathlib.Omega.{arith}
 use lib.ListN.{length}
 use Rattle.rules.specs.Numbers.{slots}
-use Rattle.rules.specs.Outcome.{answered}
 use Rattle.rules.specs.Connection as rule
-use Rattle.rules.specs.Table.{on}
 use Rattle.rules.specs.Log.{read}
 use Rattle.rules.specs.Replay.{Replied, Last, Replayed, stop, then, replied, replay-from, replay}
 use Rattle.rules.specs.declared.Read.{Read}
 use Rattle.rules.specs.declared.Read.the-variants.{Record, Nothing}
-use Rattle.rules.proofs.Apart.{answers-apart}
+use Rattle.rules.proofs.Settled.{answer-is-rule}
 use Rattle.rules.proofs.RoundTrip.{read-kind}
 use Rattle.connection.specs.Record as connection
 use Rattle.sender.specs.Record as sender
-use Rattle.receiver.specs.Held as held
+use Rattle.receiving.specs.Lent as lent
 use Rattle.lists.specs.Index.{table}
 use Rattle.table.specs.Slots.{meaning}
 use Rattle.player.specs.declared.State.{State}
@@ -49,7 +47,7 @@ module _ (log : List ℕ) where
   went x r (Nothing n) rest l last b h e k = absurd (false≢true (sym (b .more-is) ∙ h))
   went x r (Record slot e kind next) rest l last b h f k =
       let moved = read-kind log (x .place) slot e kind next f in
-      let answer-is = answers-apart (r .answer) (answered (on (meaning (x .table .slots)) slot e)) (b .answer-meets .answer-is) in
+      let answer-is = answer-is-rule (b .answer-meets) in
       let falls : to-go log (r .state) < to-go log x = omega (arith, b .place-is, moved .1, moved .2) in
       ap₂ then (λ i. record { kind = b .kind-is i; answer = answer-is i }) (k falls ∙ ap₂ rest (b .answer-meets .record-is) (b .place-is))
 
@@ -70,5 +68,5 @@ module _ (log : List ℕ) where
 
 -- the program's lines and its last line are those of the rules' replay
 pub plays-replay : (log : List ℕ) (l : List Replied) (last : Last) → Plays log begin l last → made l last ≡ replay log
-unfolding replay meaning connection.meaning sender.meaning held.meaning table
+unfolding replay meaning connection.meaning sender.meaning lent.meaning table
 plays-replay log l last p = plays-from log (suc (length log)) p (omega arith)

@@ -5,8 +5,6 @@ use mathlib.Core.List.{List, [], _∷_}
 use Prim.Native.Nat.{ℕ, _+_, _≤_}
 use lib.ListN.{replicate}
 use Rattle.rules.specs.Numbers.{slots}
-use Rattle.rules.specs.Promise.{Meets}
-use Rattle.rules.specs.Table.{on}
 use Rattle.rules.specs.Log.{read}
 use Rattle.rules.specs.Replay.{Replied, Last, stop}
 use Rattle.rules.specs.declared.Answer.the-variants as answer
@@ -14,7 +12,7 @@ use Rattle.rules.specs.declared.Event.{Event}
 use Rattle.rules.specs.declared.Read.{Read}
 use Rattle.rules.specs.declared.Read.the-variants.{Record, Nothing}
 use Rattle.connection.specs.Record.{empty}
-use Rattle.table.specs.Slots.{AllSound, meaning}
+use Rattle.table.specs.Slots.{AllSound, On}
 use Rattle.player.specs.declared.State.{State}
 use Rattle.player.specs.declared.Turn.{Turn}
 
@@ -31,7 +29,7 @@ pub record Sound (x : State) : Type 0 where
 pub record GoesOn (x : State) (slot : ℕ) (e : Event) (kind next : ℕ) (r : Turn) : Type 0 where
   pub more-is : r .more ≡ true
   pub kind-is : r .kind ≡ kind
-  pub answer-meets : Meets AllSound meaning (x .table .slots) (on (meaning (x .table .slots)) slot e) (r .answer) (r .state .table .slots)
+  pub answer-meets : On (x .table .slots) slot e (r .answer) (r .state .table .slots)
   pub stop-is : r .stop ≡ 0
   pub place-is : r .state .place ≡ next
   pub count-is : r .state .count ≡ x .count + 1

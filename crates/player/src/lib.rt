@@ -50,7 +50,7 @@ impl State {
                 let table = self.table;
                 let out = table.on(slot as usize, event);
                 let answer = out.answer;
-                let after = out.table;
+                let after = out.record;
                 Turn {
                     more: true,
                     kind,

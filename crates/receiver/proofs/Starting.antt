@@ -15,11 +15,11 @@ use Rattle.rules.specs.Numbers.{turn, room-ok, words}
 use Rattle.rules.specs.Receiver.{fresh}
 use Rattle.lists.proofs.Lists.{getD-alike}
 use Rattle.rules.proofs.Allowed.{room-numbers}
-use Rattle.receiver.specs.Held.{Held, held, offset, accepted, meaning, Started}
+use Rattle.receiving.specs.Lent.{Lent, lent, offset, accepted, meaning, Started}
 
 module _ (room : ℕ) (first : Psn) (w : ℕ) (good : room-ok room ≡ true) (low : first .0 < turn) (bits : Bits w (λ i. ltb i (first .0 % 64))) where
-  abbrev y : Held
-  y = held (record { room = room; expected = first; count = 0 }) (set (replicate words 0) 0 w)
+  abbrev y : Lent
+  y = lent (record { room = room; expected = first; count = 0 }) (set (replicate words 0) 0 w)
 
   first-row : Row (y .words) (λ p. ltb p (offset y))
   first-row =

@@ -1,3 +1,2 @@
 -- What a receiver's record means, and which records there are.
-pub mod Held
 pub mod Record

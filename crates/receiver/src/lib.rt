@@ -1,185 +1,15 @@
-// The receiving side. Its words hold the packet numbers from E's own block of 64 on: bit b of word j is number 64 j + b of that block and
-// those after it. All before E are accepted, so their bits are set; no bit past the window is.
+// The receiving side by value: a head beside its own words.
 ghost use mathlib.Core.Path.{_≡_};
-ghost use Rattle.rules.specs.Receiver.{accept as accept-of, arrive as arrive-of, nack-of, reason-of, sack-of, start as start-of, verdict};
-ghost use Rattle.rules.specs.Promise.{Meets};
-ghost use Rattle.rules.specs.declared.Verdict.the-variants.{Fresh};
-ghost use Rattle.receiver.specs.Held.{held, meaning, Started};
-ghost use Rattle.receiver.specs.Record.{empty as empty-of, meaning as meaning-of, Sound};
-use psn::HALF;
+ghost use Rattle.rules.specs.Receiver.{start as start-of};
+ghost use Rattle.rules.specs.Receiving.{arrive as arrive-of, step as step-of};
+ghost use Rattle.receiver.specs.Record.{empty as empty-of, meaning, Sound, Steps};
 use psn::Psn;
-use psn::TURN;
+use receiving::Head;
 use rules::Answer;
 use rules::Arrival;
-use rules::Block;
-use rules::Nack;
-use rules::Sack;
-use rules::Verdict;
+use rules::Opening;
+use rules::Receiving;
 use rules::WORDS;
-
-// A receiver but for its words.
-pub struct Head {
-    pub room: u32,
-    pub expected: Psn,
-    pub count: u32,
-}
-
-// The answer to an arrival, and the head after it.
-pub struct Taken {
-    pub answer: Answer,
-    pub head: Head,
-}
-
-// A NACK's reason, as a sender takes it: 0 where a SACK is sent.
-fn reason(v: Verdict) -> u8
-    ensures { λ r. ⌜ r ≡ reason-of v ⌝ }
-{
-    match v {
-        Verdict::Fresh => 0,
-        Verdict::Known => 0,
-        Verdict::Beyond => 3,
-        Verdict::NoBuffer => 4,
-        Verdict::Trim => 1,
-        Verdict::TrimLastHop => 2,
-    }
-}
-
-fn nack(v: Verdict, a: Arrival) -> Nack
-    ensures { λ r. ⌜ r ≡ nack-of v a ⌝ }
-{
-    let psn = a.psn;
-    Nack {
-        psn,
-        reason: reason(v),
-        entropy: a.entropy,
-        rtx: allowed::flag(a.flags, 1),
-    }
-}
-
-impl Head {
-    // How an arrival is judged.
-    fn judge(self, words: &[u64], a: Arrival) -> Verdict
-        requires { ⌜ Started (held self (now words)) ⌝ }
-        ensures { λ r. ⌜ r ≡ verdict (meaning (held self (now (words .entry)))) a ⌝ }
-    {
-        let flags = a.flags;
-        if allowed::flag(flags, 2) {
-            return Verdict::Trim;
-        }
-        if allowed::flag(flags, 3) {
-            return Verdict::TrimLastHop;
-        }
-        let expected = self.expected;
-        let psn = a.psn;
-        let d = expected.distance(psn);
-        if HALF <= d {
-            return Verdict::Known;
-        }
-        let room = self.room;
-        if room <= d {
-            return Verdict::Beyond;
-        }
-        if row::test(words, expected.0 % 64 + d) {
-            return Verdict::Known;
-        }
-        if allowed::flag(flags, 4) {
-            return Verdict::NoBuffer;
-        }
-        Verdict::Fresh
-    }
-
-    // A fresh packet is accepted, and E moves to the first that is not.
-    fn accept(self, words: &mut [u64], a: Arrival) -> Head
-        requires { ⌜ Started (held self (now words)) × (verdict (meaning (held self (now words))) a ≡ Fresh) ⌝ }
-        ensures { λ r. ⌜ Started (held r (now (words .exit))) × (meaning (held r (now (words .exit))) ≡ accept-of (meaning (held self (now (words .entry)))) a) ⌝ }
-    {
-        let room = self.room;
-        let expected = self.expected;
-        let psn = a.psn;
-        let s = expected.0 % 64;
-        row::set(words, s + expected.distance(psn));
-        let t = row::run(words, s + room);
-        row::shed(words, (t / 64) as usize);
-        Head {
-            room,
-            expected: expected.after(t - s),
-            count: std::num::wrapping_add_u32(self.count, a.size as u32),
-        }
-    }
-
-    // The reply to a packet that is fresh or known, from the record after it.
-    fn sack(self, words: &[u64], a: Arrival) -> Sack
-        requires { ⌜ Started (held self (now words)) ⌝ }
-        ensures { λ r. ⌜ r ≡ sack-of (meaning (held self (now (words .entry)))) a ⌝ }
-    {
-        let room = self.room;
-        let expected = self.expected;
-        let psn = a.psn;
-        let d = expected.distance(psn);
-        let mut o: u32 = 0;
-        if d < room {
-            o = 64 * (d / 64);
-        }
-        let block = Block {
-            base: expected.after(o),
-            bitmap: row::block(words, expected.0 % 64 + o),
-        };
-        Sack {
-            cack: expected.after(TURN - 1),
-            block,
-            count: self.count / 256,
-            mpr: 0,
-            entropy: a.entropy,
-            rtx: allowed::flag(a.flags, 1),
-            mark: allowed::flag(a.flags, 0),
-        }
-    }
-
-    // A refusal leaves the head as it is.
-    fn refused(self, number: u8) -> Taken
-        ensures { λ r. ⌜ (r .answer ≡ Answer.Refused number) × (r .head ≡ self) ⌝ }
-    {
-        Taken {
-            answer: Answer::Refused(number),
-            head: self,
-        }
-    }
-
-    // An arrival at a receiver that was started, over lent words.
-    pub fn arrive(self, words: &mut [u64], a: Arrival) -> Taken
-        requires { ⌜ Started (held self (now words)) ⌝ }
-        ensures { λ r. ⌜ Meets Started meaning (held self (now (words .entry))) (arrive-of (meaning (held self (now (words .entry)))) a) (r .answer) (held (r .head) (now (words .exit))) ⌝ }
-    {
-        let psn = a.psn;
-        if !allowed::psn_ok(psn) {
-            return self.refused(5);
-        }
-        if !allowed::size_ok(a.size) {
-            return self.refused(6);
-        }
-        if !allowed::flags_ok(a.flags) {
-            return self.refused(14);
-        }
-        let v = self.judge(words, a);
-        if let Verdict::Fresh = v {
-            let head = self.accept(words, a);
-            return Taken {
-                answer: Answer::Acked(v, head.sack(words, a)),
-                head,
-            };
-        }
-        if let Verdict::Known = v {
-            return Taken {
-                answer: Answer::Acked(v, self.sack(words, a)),
-                head: self,
-            };
-        }
-        Taken {
-            answer: Answer::Nacked(v, nack(v, a)),
-            head: self,
-        }
-    }
-}
 
 // A receiver by value.
 pub struct Receiver {
@@ -190,7 +20,7 @@ pub struct Receiver {
 }
 
 // The answer to an event, and the record after it.
-pub struct Arrived {
+pub struct Stepped {
     pub answer: Answer,
     pub record: Receiver,
 }
@@ -209,9 +39,11 @@ impl Receiver {
     }
 
     // A start. Refused, it hands back the empty record.
-    pub fn start(room: u32, first: Psn) -> Arrived
-        ensures { λ r. ⌜ Meets Sound meaning-of empty-of (start-of room first) (r .answer) (r .record) ⌝ }
+    pub fn start(opening: Opening) -> Stepped
+        ensures { λ r. ⌜ Steps empty-of (start-of opening) r ⌝ }
     {
+        let room = opening.room as u32;
+        let first = opening.first;
         if !allowed::room_ok(room) {
             return Receiver::empty().refused(4);
         }
@@ -220,7 +52,7 @@ impl Receiver {
         }
         let mut words = [0u64; WORDS];
         words[0] = word::low(first.0 % 64);
-        Arrived {
+        Stepped {
             answer: Answer::Started,
             record: Receiver {
                 room,
@@ -232,19 +64,19 @@ impl Receiver {
     }
 
     // A refusal leaves the record as it is.
-    fn refused(self, number: u8) -> Arrived
+    fn refused(self, number: u8) -> Stepped
         ensures { λ r. ⌜ (r .answer ≡ Answer.Refused number) × (r .record ≡ self) ⌝ }
     {
-        Arrived {
+        Stepped {
             answer: Answer::Refused(number),
             record: self,
         }
     }
 
     // An arrival.
-    pub fn arrive(self, a: Arrival) -> Arrived
+    pub fn arrive(self, a: Arrival) -> Stepped
         requires { ⌜ Sound self ⌝ }
-        ensures { λ r. ⌜ Meets Sound meaning-of self (arrive-of (meaning-of self) a) (r .answer) (r .record) ⌝ }
+        ensures { λ r. ⌜ Steps self (arrive-of (meaning self) a) r ⌝ }
     {
         let room = self.room;
         if room == 0 {
@@ -259,9 +91,9 @@ impl Receiver {
         };
         let out = head.arrive(&mut words, a);
         let answer = out.answer;
-        let left = out.head;
+        let left = out.record;
         let next = left.expected;
-        Arrived {
+        Stepped {
             answer,
             record: Receiver {
                 room: left.room,
@@ -270,5 +102,13 @@ impl Receiver {
                 count: left.count,
             },
         }
+    }
+
+    // An event.
+    pub fn step(self, event: Receiving) -> Stepped
+        requires { ⌜ Sound self ⌝ }
+        ensures { λ r. ⌜ Steps self (step-of (meaning self) event) r ⌝ }
+    {
+        self.arrive(event)
     }
 }

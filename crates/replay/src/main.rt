@@ -1,12 +1,15 @@
 // Replays a log from standard input: a line for each record, then what ends the log. A read that fails counts as the end of the input.
 use paper::Shown;
+use paper::VALUES;
 use player::State;
+use rules::LONGEST_LOG;
+use rules::RECORD_HEAD;
 
 // The longest log and one byte more, so that a longer one is seen.
-const INPUT: usize = 32_769;
+const INPUT: usize = LONGEST_LOG + 1;
 
-// One more than the most records that a log has: each takes four bytes or more.
-const RECORDS: u32 = 8193;
+// One more than the most records that a log has: each has at least its head.
+const RECORDS: usize = LONGEST_LOG / RECORD_HEAD + 1;
 
 // Room for the longest line, and for the text between two writes.
 const LINE: usize = 160;
@@ -19,7 +22,7 @@ fn push_values(out: &mut [u8], at: usize, s: Shown) -> usize {
     let many = s.many;
     let mut p = at;
     let mut i: usize = 0;
-    while i < 8 {
+    while i < VALUES {
         if many <= i {
             return p;
         }
@@ -74,10 +77,10 @@ fn push_last(out: &mut [u8], at: usize, stop: u8, place: usize, count: usize) ->
     lines::push(out, d, b'\n')
 }
 
-// The offset of the bad record's first byte; 32768 for a log that is too long.
+// The offset of the bad record's first byte; the longest log's length for one that is too long.
 fn offset(stop: u8, place: usize) -> u64 {
     if stop == 13 {
-        return 32_768;
+        return LONGEST_LOG as u64;
     }
     place as u64
 }
@@ -87,7 +90,7 @@ fn run(log: &[u8], out: &mut [u8]) {
     let head = *b"mrc log 1\n";
     let mut n = lines::push_bytes(out, 0, &head);
     let mut state = State::begin();
-    let mut left: u32 = RECORDS;
+    let mut left = RECORDS;
     while 0 < left {
         let t = state.turn(log);
         let next = t.state;

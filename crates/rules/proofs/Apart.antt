@@ -5,9 +5,10 @@ use mathlib.Core.List.{List, [], _∷_}
 use Prim.Native.Nat.{ℕ}
 use lib.Dec.{eqb}
 use lib.ListN.{length, getD, drop}
+use Rattle.promise.specs.Line.{Line}
 use Rattle.rules.specs.Numbers.{psn}
-use Rattle.rules.specs.Paper.{Line, digit, code, paper, read-line, written-line}
-use Rattle.rules.specs.Log.{event-of}
+use Rattle.rules.specs.Paper.{digit, code, paper, read-line, written-line}
+use Rattle.rules.specs.Kinds.{event-of}
 use Rattle.rules.specs.declared.Verdict.{Verdict}
 use Rattle.rules.specs.declared.Verdict.the-variants.{Fresh, Known, Beyond, NoBuffer, Trim, TrimLastHop}
 use Rattle.rules.specs.declared.Answer.{Answer}

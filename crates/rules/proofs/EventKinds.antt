@@ -8,40 +8,41 @@ use borrow.Author.Tests.{ltb-true, leb-true}
 use lib.Dec.{leb, ltb}
 use lib.ListN.{length, getD, drop, drop-of-length-le}
 use lib.Seq.{drop-cons}
-use Rattle.rules.specs.Paper.{kind-of, fields-of}
-use Rattle.rules.specs.Log.{layouts, widths, kind-ok, event-of}
+use Rattle.rules.specs.Kinds.{kind-of, fields-of, event-of, layouts, layout, kind-ok}
+use Rattle.rules.specs.declared.Sending.the-variants as sending
+use Rattle.rules.specs.declared.Use.the-variants as use-of
 use Rattle.rules.specs.declared.Event.{Event}
 use Rattle.rules.specs.declared.Event.the-variants as event
 use Rattle.lists.proofs.Joined.{and-true-each}
 
 pub known-kind : (e : Event) → kind-ok (kind-of e) ≡ true
 unfolding kind-of layouts
-known-kind (event.Start a b c d) = refl
-known-kind event.Close = refl
-known-kind (event.Send z) = refl
-known-kind (event.Arrive a) = refl
-known-kind (event.Sack c b) = refl
-known-kind (event.Nack p n) = refl
-known-kind (event.Timer p) = refl
-known-kind event.Resend = refl
+known-kind (event.Start s) = refl
+known-kind (event.Use use-of.Close) = refl
+known-kind (event.Use (use-of.Sends (sending.Send z))) = refl
+known-kind (event.Use (use-of.Receives a)) = refl
+known-kind (event.Use (use-of.Sends (sending.Sack c b))) = refl
+known-kind (event.Use (use-of.Sends (sending.Nack p n))) = refl
+known-kind (event.Use (use-of.Sends (sending.Timer p))) = refl
+known-kind (event.Use (use-of.Sends sending.Resend)) = refl
 
 pub event-again : (e : Event) → event-of (kind-of e) (fields-of e) ≡ e
 unfolding kind-of fields-of event-of
-event-again (event.Start a b c d) = refl
-event-again event.Close = refl
-event-again (event.Send z) = refl
-event-again (event.Arrive a) = refl
-event-again (event.Sack c b) = refl
-event-again (event.Nack p n) = refl
-event-again (event.Timer p) = refl
-event-again event.Resend = refl
+event-again (event.Start s) = refl
+event-again (event.Use use-of.Close) = refl
+event-again (event.Use (use-of.Sends (sending.Send z))) = refl
+event-again (event.Use (use-of.Receives a)) = refl
+event-again (event.Use (use-of.Sends (sending.Sack c b))) = refl
+event-again (event.Use (use-of.Sends (sending.Nack p n))) = refl
+event-again (event.Use (use-of.Sends (sending.Timer p))) = refl
+event-again (event.Use (use-of.Sends sending.Resend)) = refl
 
 known-range : (k : ℕ) → kind-ok k ≡ true → (1 ≤ k) × (k < 9)
 unfolding layouts
 known-range k o = let h = and-true-each (leb 1 k) (ltb k 9) o in (leb-true 1 k (h .0), ltb-true k 9 (h .1))
 
 -- a kind that is known is one of the eight
-by-kind : (P : ℕ → Type 0) → P 1 → P 2 → P 3 → P 4 → P 5 → P 6 → P 7 → P 8 → (k : ℕ) → kind-ok k ≡ true → P k
+pub by-kind : (P : ℕ → Type 0) → P 1 → P 2 → P 3 → P 4 → P 5 → P 6 → P 7 → P 8 → (k : ℕ) → kind-ok k ≡ true → P k
 by-kind P a b c d e f g h zero o = absurd (omega (arith, known-range 0 o))
 by-kind P a b c d e f g h (suc zero) o = a
 by-kind P a b c d e f g h (suc (suc zero)) o = b
@@ -68,10 +69,10 @@ unfolding listed
 listed-all l i zero h = sym (drop-of-length-le l {i = i} (omega arith))
 listed-all l i (suc n) h = ap (λ (t : List ℕ). getD l i 0 ∷ t) (listed-all l (suc i) n (omega arith)) ∙ sym (drop-cons l i 0 (omega arith))
 
-pub fields-again : (k : ℕ) (l : List ℕ) → kind-ok k ≡ true → length l ≡ length (widths k) → fields-of (event-of k l) ≡ l
-unfolding event-of fields-of widths layouts listed
+pub fields-again : (k : ℕ) (l : List ℕ) → kind-ok k ≡ true → length l ≡ length (layout k) → fields-of (event-of k l) ≡ l
+unfolding event-of fields-of layout layouts listed
 fields-again k l o =
-    by-kind (λ n. length l ≡ length (widths n) → fields-of (event-of n l) ≡ l)
+    by-kind (λ n. length l ≡ length (layout n) → fields-of (event-of n l) ≡ l)
     (all 4) (all 0) (all 1) (all 4) (all 3) (all 2) (all 1) (all 0) k o
   where
     all : (n : ℕ) → length l ≡ n → listed l 0 n ≡ l

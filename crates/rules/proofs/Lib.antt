@@ -4,15 +4,14 @@ pub mod Starred
 pub mod Packed
 pub mod Entries
 pub mod Allowed
-pub mod Outcomes
 pub mod Receives
 pub mod Sends
+pub mod Rooms
 pub mod Runs
 pub mod Slots
 pub mod Slips
-pub mod Spelling
-pub mod Fields
 pub mod EventKinds
+pub mod Cells
 pub mod Records
 pub mod Reading
 pub mod Writing
@@ -20,5 +19,3 @@ pub mod RoundTrip
 pub mod Replays
 pub mod Apart
 pub mod Settled
-pub mod Meeting
-pub mod Rooms

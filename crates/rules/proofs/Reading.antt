@@ -8,7 +8,9 @@ use borrow.Author.Tests.{ltb-false, eqb-true, not-false, le-ltb, lt-leb}
 use lib.Dec.{leb, ltb, eqb}
 use lib.ListN.{length, getD, drop, length-drop}
 use Rattle.rules.specs.Numbers.{longest-log}
-use Rattle.rules.specs.Log.{widths, kind-ok, whole, number-all, event-of, has-mark, read-left, read}
+use Rattle.fields.specs.Fields as fields
+use Rattle.rules.specs.Kinds.{widths, kind-ok, event-of}
+use Rattle.rules.specs.Log.{whole, has-mark, read-left, read}
 use Rattle.rules.specs.declared.Event.{Event}
 use Rattle.rules.specs.declared.Read.the-variants.{Record, Nothing}
 use Rattle.lists.proofs.Joined.{and-true-each, passed}
@@ -44,7 +46,7 @@ left-begins l place slot e kind next h =
     let first : getD l 0 0 ≡ 0x4D = eqb-true (getD l 0 0) 0x4D (mark .0) in
     let second : getD l 1 0 ≡ 0x52 = eqb-true (getD l 1 0) 0x52 (mark .1) in
     let known : kind-ok k ≡ true = not-false (kind-ok k) (c .0) in
-    let same : Record (getD l 3 0) (event-of k (number-all (widths k) (drop 4 l))) k (place + whole k) ≡ Record slot e kind next = d .1 in
+    let same : Record (getD l 3 0) (event-of k (fields.decode (widths k) (drop 4 l))) k (place + whole k) ≡ Record slot e kind next = d .1 in
     let kind-is : k ≡ kind = cc in (
       record {
         head = cc (four l (omega arith));
@@ -64,7 +66,7 @@ read-holds log place slot e kind next h =
     record { short = ltb-false longest-log (length log) (a .0); begins = c .0; next-is = c .1 }
 
 cons-left : (t : List ℕ) (place slot kind : ℕ) → kind-ok kind ≡ true → whole kind ≤ 4 + length t
-    → read-left (0x4D ∷ 0x52 ∷ kind ∷ slot ∷ t) place ≡ Record slot (event-of kind (number-all (widths kind) t)) kind (place + whole kind)
+    → read-left (0x4D ∷ 0x52 ∷ kind ∷ slot ∷ t) place ≡ Record slot (event-of kind (fields.decode (widths kind) t)) kind (place + whole kind)
 unfolding read-left
 cons-left t place slot kind known room =
     let n = length (0x4D ∷ 0x52 ∷ kind ∷ slot ∷ t) in

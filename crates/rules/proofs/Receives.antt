@@ -8,13 +8,14 @@ use lib.ListN.{getD, set, length-set, length-replicate}
 use Rattle.psn.proofs.Circle.{after-lt}
 use Rattle.rules.specs.Numbers.{turn, distance, room-ok}
 use Rattle.lists.specs.Lists.{lead}
-use Rattle.rules.specs.Receiver.{Receiver, fresh, arrive, verdict, judged, accept}
+use Rattle.rules.specs.Receiver.{Receiver, fresh, verdict, judged, accept}
+use Rattle.rules.specs.Receiving.{Receiving, arrive, arrive-refusals, step}
 use Rattle.rules.specs.Kept.{Receives}
 use Rattle.rules.specs.declared.Arrival.{Arrival}
 use Rattle.rules.specs.declared.Verdict.{Verdict}
 use Rattle.rules.specs.declared.Verdict.the-variants.{Fresh, Known, Beyond, NoBuffer, Trim, TrimLastHop}
 use Rattle.lists.proofs.Lists.{lead-false, lead-le, getD-alike, getD-slide, length-slide}
-use Rattle.rules.proofs.Outcomes.{After, after-refuse, after-done}
+use Rattle.promise.proofs.Outcomes.{After, after-unless, after-done}
 
 pub receives-fresh : (n p : ℕ) → room-ok n ≡ true → p < turn → Receives (fresh n p)
 unfolding fresh
@@ -45,8 +46,6 @@ receives-judged r a NoBuffer k = after-done Receives r _ _ k
 receives-judged r a Trim k = after-done Receives r _ _ k
 receives-judged r a TrimLastHop k = after-done Receives r _ _ k
 
-pub receives-arrive : (r : Receiver) (a : Arrival) → Receives r → After Receives r (arrive r a)
-unfolding arrive
-receives-arrive r a k =
-    after-refuse Receives r _ _ _ k λ _. after-refuse Receives r _ _ _ k λ _. after-refuse Receives r _ _ _ k λ _. after-refuse Receives r _ _ _ k λ _.
-    receives-judged r a (verdict r a) k
+pub receives-step : (r : Receiver) (e : Receiving) → Receives r → After Receives r (step r e)
+unfolding step arrive
+receives-step r a k = after-unless Receives r (arrive-refusals r a) _ k λ _. receives-judged r a (verdict r a) k

@@ -4,7 +4,8 @@ use mathlib.Core.List.{List}
 use Prim.Native.Nat.{ℕ, zero, suc, _-_, _<_}
 use native.Mathlib.Omega.{arith}
 use lib.ListN.{length}
-use Rattle.rules.specs.Outcome.{left, answered}
+use Rattle.promise.specs.Outcome.{left}
+use Rattle.rules.specs.Paper.{answered}
 use Rattle.rules.specs.Connection.{Connection}
 use Rattle.rules.specs.Table.{on}
 use Rattle.rules.specs.Log.{read}

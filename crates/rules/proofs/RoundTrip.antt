@@ -6,18 +6,19 @@ use native.Mathlib.Omega.{arith}
 use lib.ListN.{length, take, drop, length-append, length-drop}
 use lib.Seq.{drop-append-seam}
 use Rattle.rules.specs.Numbers.{longest-log}
-use Rattle.rules.specs.Paper.{kind-of, fields-of}
-use Rattle.rules.specs.Log.{widths, whole, Fits, encode, read, write, written}
+use Rattle.fields.specs.Fields.{Bytes}
+use Rattle.fields.proofs.Spelling.{bytes-drop}
+use Rattle.rules.specs.Kinds.{kind-of}
+use Rattle.rules.specs.Log.{whole, encode, read, write, written}
 use Rattle.rules.specs.declared.Event.{Event}
 use Rattle.rules.specs.declared.Read.the-variants.{Record}
 use Rattle.rules.specs.declared.Written.the-variants as writing
-use Rattle.rules.proofs.Spelling.{Bytes, bytes-drop}
-use Rattle.rules.proofs.Records.{length-encode, encode-begins, begins-kind, begins-fits, begins-low, begins-encode}
+use Rattle.rules.proofs.Records.{Wide, length-encode, encode-begins, begins-kind, begins-wide, begins-low, begins-encode}
 use Rattle.rules.proofs.Reading.{read-holds, holds-read}
 use Rattle.rules.proofs.Writing.{write-writable, writable-write}
 
 -- "A log record written is read back as the same event": wherever it stands in a log
-pub encode-read : (slot : ℕ) (e : Event) (before after : List ℕ) (n : ℕ) → Fits (widths (kind-of e)) (fields-of e)
+pub encode-read : (slot : ℕ) (e : Event) (before after : List ℕ) (n : ℕ) → Wide e
     → write e n ≡ writing.Length (whole (kind-of e)) → length (before ++ (encode slot e ++ after)) ≤ longest-log
     → read (before ++ (encode slot e ++ after)) (length before) ≡ Record slot e (kind-of e) (length before + whole (kind-of e))
 encode-read slot e before after n f w l =
@@ -26,7 +27,7 @@ encode-read slot e before after n f w l =
     (record { short = l; begins = rw drop-append-seam (encode-begins slot e after f low); next-is = refl })
 
 -- and in the buffer that it was written to
-pub write-read : (slot : ℕ) (e : Event) (buffer : List ℕ) (n : ℕ) → Fits (widths (kind-of e)) (fields-of e)
+pub write-read : (slot : ℕ) (e : Event) (buffer : List ℕ) (n : ℕ) → Wide e
     → length buffer ≤ longest-log → write e (length buffer) ≡ writing.Length n
     → read (written slot e buffer (writing.Length n)) 0 ≡ Record slot e (kind-of e) n
 unfolding written
@@ -45,10 +46,8 @@ read-kind log place slot e kind next h =
     let b = r .begins in
     (sym (begins-kind (drop place log) slot e kind b), r .next-is, omega (arith, r .next-is, b .room, length-drop place log))
 
-pub read-fits : (log : List ℕ) (place slot : ℕ) (e : Event) (kind next : ℕ) → Bytes log → read log place ≡ Record slot e kind next
-    → Fits (widths (kind-of e)) (fields-of e)
-read-fits log place slot e kind next b h =
-    begins-fits (drop place log) slot e kind (read-holds log place slot e kind next h .begins) (bytes-drop place log b)
+pub read-wide : (log : List ℕ) (place slot : ℕ) (e : Event) (kind next : ℕ) → read log place ≡ Record slot e kind next → Wide e
+read-wide log place slot e kind next h = begins-wide (drop place log) slot e kind (read-holds log place slot e kind next h .begins)
 
 -- "read then written gives the same bytes": no PSN that was read is refused, and the bytes are those of the log
 pub read-encode : (log : List ℕ) (place slot : ℕ) (e : Event) (kind next : ℕ) → Bytes log → read log place ≡ Record slot e kind next
@@ -66,7 +65,7 @@ unfolding written
 read-write log place slot e kind next buffer b h l =
     let r = read-holds log place slot e kind next h in
     let n : whole (kind-of e) ≡ next - place = ap whole (begins-kind (drop place log) slot e kind (r .begins)) ∙ omega (arith, r .next-is) in
-    let low = begins-low (drop place log) slot e kind (r .begins) (bytes-drop place log b) in
+    let low = begins-low (drop place log) slot e kind (r .begins) in
     let w : write e (length buffer) ≡ writing.Length (next - place) =
     writable-write e (length buffer) (record { low = low; room = omega arith }) ∙ ap writing.Length n in
     (w, rw w (ap (λ (x : List ℕ). x ++ drop (next - place) buffer) (read-encode log place slot e kind next b h)))

@@ -9,19 +9,22 @@ use lib.Dec.{leb}
 use lib.ListN.{length, getD, drop, length-append, length-drop}
 use lib.Seq.{getD-drop}
 use borrow.Author.Tests.{leb-false, not-false}
-use Rattle.psn.specs.declared.Psn.{Psn}
 use Rattle.psn.proofs.Circle.{after-lt}
 use Rattle.rules.specs.Numbers.{room-ok, size-ok}
 use Rattle.lists.specs.Lists.{lead, update, All}
-use Rattle.rules.specs.Sender.{Entry, Sender, fresh, send, with-entries, new, index}
-use Rattle.rules.specs.Retire.{retire, retired, is-retired, settle, named, after-sack, sack}
-use Rattle.rules.specs.Marks.{mark, markable, with-mark, nack, timer, resend, nearest}
-use Rattle.rules.specs.Kept.{Held, Sends}
+use Rattle.rules.specs.Sender.{Entry, Sender, outstanding, fresh, sent, with-entries, new, index}
+use Rattle.rules.specs.Retire.{retire, retired, is-retired, settle, named, after-sack, acknowledged}
+use Rattle.rules.specs.Marks.{mark, markable, with-mark, nacked, resent, nearest}
+use Rattle.rules.specs.Sending.{step, send, send-refusals, sack, sack-refusals, nack, nack-refusals, timer, timer-refusals, resend, resend-refusals}
+use Rattle.rules.specs.Kept.{Good, Sends}
 use Rattle.rules.specs.declared.Block.{Block}
+use Rattle.rules.specs.declared.Sending.{Sending}
+use Rattle.rules.specs.declared.Sending.the-variants as sending
 use Rattle.rules.specs.declared.Answer.{Answer}
 use Rattle.rules.specs.declared.Answer.the-variants as answer
 use Rattle.lists.proofs.Lists.{lead-false, length-update, map-update, all-update, all-snoc, all-drop}
-use Rattle.rules.proofs.Outcomes.{After, after-refuse, after-cond, after-done}
+use Rattle.promise.proofs.Refusing.{Past}
+use Rattle.promise.proofs.Outcomes.{After, after-unless, after-cond, after-done}
 
 pub sends-fresh : (n p : ℕ) → room-ok n ≡ true → Sends (fresh n p)
 unfolding fresh All
@@ -30,7 +33,7 @@ sends-fresh n p h = record {
   place-low = after-lt p _;
   room-left = omega arith;
   first-open = refl;
-  entries-held = tt;
+  entries-good = tt;
 }
 
 first-of-more : (l m : List Entry) → getD (map is-retired l) 0 false ≡ false → getD (map is-retired m) 0 false ≡ false
@@ -46,24 +49,18 @@ sends-new x size k z l = record {
   place-low = k .place-low;
   room-left = simp length-append (omega (arith, leb-false (x .room) (length (x .entries)) l));
   first-open = first-of-more (x .entries) (new size ∷ []) (k .first-open) refl;
-  entries-held = all-snoc Held (x .entries) (new size) (k .entries-held) (record { size-good = z; not-both = refl });
+  entries-good = all-snoc Good (x .entries) (new size) (k .entries-good) (record { size-good = z; not-both = refl });
 }
 
-pub sends-send : (x : Sender) (size : ℕ) → Sends x → After Sends x (send x size)
-unfolding send
-sends-send x size k =
-    after-refuse Sends x _ _ _ k λ _. after-refuse Sends x _ _ _ k λ z. after-refuse Sends x _ _ _ k λ l.
-    after-done Sends x _ _ (sends-new x size k (not-false (size-ok size) z) l)
-
 -- retiring: the place stops at the first that is not retired
-held-retired : (b : Bool) (e : Entry) → Held e → Held (cond b (retired e) e)
-held-retired true e h = record { size-good = h .size-good; not-both = refl }
-held-retired false e h = h
+good-retired : (b : Bool) (e : Entry) → Good e → Good (cond b (retired e) e)
+good-retired true e h = record { size-good = h .size-good; not-both = refl }
+good-retired false e h = h
 
-all-retire : (f : ℕ → Bool) (l : List Entry) → All Held l → All Held (retire f l)
+all-retire : (f : ℕ → Bool) (l : List Entry) → All Good l → All Good (retire f l)
 unfolding All retire
 all-retire f [] h = h
-all-retire f (e ∷ l) h = (held-retired (f zero) e (h .0), all-retire (λ i. f (suc i)) l (h .1))
+all-retire f (e ∷ l) h = (good-retired (f zero) e (h .0), all-retire (λ i. f (suc i)) l (h .1))
 
 pub length-retire : (f : ℕ → Bool) (l : List Entry) → length (retire f l) ≡ length l
 unfolding retire
@@ -75,7 +72,7 @@ map-drop zero l = refl
 map-drop (suc k) [] = refl
 map-drop (suc k) (e ∷ l) = map-drop k l
 
-sends-settle : (x : Sender) (l : List Entry) → Sends x → length l ≤ x .room → All Held l → Sends (settle x l)
+sends-settle : (x : Sender) (l : List Entry) → Sends x → length l ≤ x .room → All Good l → Sends (settle x l)
 unfolding settle
 sends-settle x l k n h =
     let m = lead (map is-retired l) in
@@ -85,38 +82,37 @@ sends-settle x l k n h =
       room-left = simp length-drop (omega arith);
       first-open = ap (λ (bs : List Bool). getD bs 0 false) (map-drop m l) ∙ getD-drop m (map is-retired l) 0 false
           ∙ ap (λ (i : ℕ). getD (map is-retired l) i false) (omega arith) ∙ lead-false (map is-retired l);
-      entries-held = all-drop Held m l h;
+      entries-good = all-drop Good m l h;
     }
 
-pub sends-sack : (x : Sender) (cack : Psn) (b : Block) → Sends x → After Sends x (sack x cack b)
-unfolding sack after-sack
-sends-sack x cack b k =
-    after-refuse Sends x _ _ _ k λ _. after-refuse Sends x _ _ _ k λ _. after-refuse Sends x _ _ _ k λ _.
-    let long = length-retire (named x (cack .0) b) (x .entries) in
-    after-done Sends x _ _ (sends-settle x _ k (omega (arith, long, k .room-left)) (all-retire _ (x .entries) (k .entries-held)))
+sends-acknowledged : (x : Sender) (cack : ℕ) (b : Block) → Sends x → After Sends x (acknowledged x cack b)
+unfolding acknowledged after-sack
+sends-acknowledged x cack b k =
+    let long = length-retire (named x cack b) (x .entries) in
+    after-done Sends x _ _ (sends-settle x _ k (omega (arith, long, k .room-left)) (all-retire _ (x .entries) (k .entries-good)))
 
 -- marks: one is set only where nothing is retired, and may be taken anywhere
-held-mark : (e : Entry) → markable e ≡ true → Held e → Held (with-mark true e)
-held-mark e m h = record { size-good = h .size-good; not-both = go (e .retired) m }
+good-mark : (e : Entry) → markable e ≡ true → Good e → Good (with-mark true e)
+good-mark e m h = record { size-good = h .size-good; not-both = go (e .retired) m }
   where
     go : (b : Bool) → (not b && not (e .marked)) ≡ true → (b && true) ≡ false
     go true n = absurd (false≢true n)
     go false n = refl
 
-all-mark : (l : List Entry) (i : ℕ) → getD (map markable l) i false ≡ true → All Held l → All Held (update (with-mark true) l i)
+all-mark : (l : List Entry) (i : ℕ) → getD (map markable l) i false ≡ true → All Good l → All Good (update (with-mark true) l i)
 unfolding All update
 all-mark [] i m h = h
-all-mark (e ∷ l) zero m h = (held-mark e m (h .0), h .1)
+all-mark (e ∷ l) zero m h = (good-mark e m (h .0), h .1)
 all-mark (e ∷ l) (suc i) m h = (h .0, all-mark l i m (h .1))
 
-held-unmark : (e : Entry) → Held e → Held (with-mark false e)
-held-unmark e h = record { size-good = h .size-good; not-both = go (e .retired) }
+good-unmark : (e : Entry) → Good e → Good (with-mark false e)
+good-unmark e h = record { size-good = h .size-good; not-both = go (e .retired) }
   where
     go : (b : Bool) → (b && false) ≡ false
     go true = refl
     go false = refl
 
-sends-marks : (x : Sender) (b : Bool) (i : ℕ) → Sends x → All Held (update (with-mark b) (x .entries) i)
+sends-marks : (x : Sender) (b : Bool) (i : ℕ) → Sends x → All Good (update (with-mark b) (x .entries) i)
     → Sends (with-entries x (update (with-mark b) (x .entries) i))
 unfolding with-entries
 sends-marks x b i k h = record {
@@ -124,29 +120,32 @@ sends-marks x b i k h = record {
   place-low = k .place-low;
   room-left = omega (arith, length-update (with-mark b) (x .entries) i, k .room-left);
   first-open = ap (λ (bs : List Bool). getD bs 0 false) (map-update is-retired (with-mark b) (x .entries) i (λ e. refl)) ∙ k .first-open;
-  entries-held = h;
+  entries-good = h;
 }
 
 sends-mark : (tell : ℕ → Answer) (x : Sender) (p : ℕ) → Sends x → After Sends x (mark tell x p)
 unfolding mark
 sends-mark tell x p k =
     after-cond Sends x (getD (map markable (x .entries)) (index x p) false) _ _
-    (λ m. after-done Sends x _ _ (sends-marks x true (index x p) k (all-mark (x .entries) (index x p) m (k .entries-held))))
+    (λ m. after-done Sends x _ _ (sends-marks x true (index x p) k (all-mark (x .entries) (index x p) m (k .entries-good))))
     (λ m. after-done Sends x _ _ k)
 
-pub sends-timer : (x : Sender) (p : Psn) → Sends x → After Sends x (timer x p)
-unfolding timer
-sends-timer x p k =
-    after-refuse Sends x _ _ _ k λ _. after-refuse Sends x _ _ _ k λ _. after-refuse Sends x _ _ _ k λ _. sends-mark answer.Expired x (p .0) k
+sends-nacked : (x : Sender) (p reason : ℕ) → Sends x → After Sends x (nacked x p reason)
+unfolding nacked
+sends-nacked x p reason k = after-cond Sends x (leb reason 4) _ _ (λ _. sends-mark answer.Marked x p k) (λ _. after-done Sends x _ _ k)
 
-pub sends-nack : (x : Sender) (p : Psn) (reason : ℕ) → Sends x → After Sends x (nack x p reason)
-unfolding nack
-sends-nack x p reason k =
-    after-refuse Sends x _ _ _ k λ _. after-refuse Sends x _ _ _ k λ _. after-refuse Sends x _ _ _ k λ _. after-refuse Sends x _ _ _ k λ _.
-    after-cond Sends x (leb reason 4) _ _ (λ _. sends-mark answer.Marked x (p .0) k) (λ _. after-done Sends x _ _ k)
+sends-resent : (x : Sender) → Sends x → After Sends x (resent x)
+unfolding resent
+sends-resent x k =
+    after-done Sends x _ _ (sends-marks x false (nearest x) k (all-update Good (with-mark false) (x .entries) (nearest x) good-unmark (k .entries-good)))
 
-pub sends-resend : (x : Sender) → Sends x → After Sends x (resend x)
-unfolding resend
-sends-resend x k =
-    after-refuse Sends x _ _ _ k λ _. after-refuse Sends x _ _ _ k λ _.
-    after-done Sends x _ _ (sends-marks x false (nearest x) k (all-update Held (with-mark false) (x .entries) (nearest x) held-unmark (k .entries-held)))
+-- ---- every event
+pub sends-step : (x : Sender) (e : Sending) → Sends x → After Sends x (step x e)
+unfolding step send send-refusals sack nack timer resend sent Past
+sends-step x (sending.Send size) k =
+    after-unless Sends x (send-refusals x size) _ k λ p.
+    after-done Sends x _ _ (sends-new x size k (not-false (size-ok size) (p .1 .0)) (p .1 .1 .0))
+sends-step x (sending.Sack cack b) k = after-unless Sends x (sack-refusals x cack b) _ k λ _. sends-acknowledged x (cack .0) b k
+sends-step x (sending.Nack p reason) k = after-unless Sends x (nack-refusals x p reason) _ k λ _. sends-nacked x (p .0) reason k
+sends-step x (sending.Timer p) k = after-unless Sends x (timer-refusals x p) _ k λ _. sends-mark answer.Expired x (p .0) k
+sends-step x sending.Resend k = after-unless Sends x (resend-refusals x) _ k λ _. sends-resent x k

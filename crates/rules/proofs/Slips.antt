@@ -7,13 +7,14 @@ use native.Mathlib.Omega.{arith}
 use lib.ListN.{getD}
 use borrow.Author.Tests.{leb-true, lt-leb, le-ltb}
 use Rattle.rules.specs.Numbers.{half, behind, distance, trimmed, trimmed-last-hop}
-use Rattle.rules.specs.Outcome.{left}
-use Rattle.rules.specs.Receiver.{Receiver, judge, verdict, judged, arrive}
+use Rattle.promise.specs.Outcome.{left}
+use Rattle.rules.specs.Receiver.{Receiver, judge, verdict, judged}
+use Rattle.rules.specs.Receiving.{arrive, arrive-refusals}
 use Rattle.rules.specs.Sender.{Entry, Sender, outstanding, nth}
 use Rattle.rules.specs.Retire.{up-to, has-bit, named, retire, retired, is-retired}
 use Rattle.rules.specs.declared.Arrival.{Arrival}
 use Rattle.rules.specs.declared.Block.{Block}
-use Rattle.rules.proofs.Outcomes.{After, after-refuse, after-done}
+use Rattle.promise.proofs.Outcomes.{After, after-unless, after-done}
 
 -- ---- "Accepting a trimmed packet": it changes nothing, wherever its PSN lies
 abbrev Same : Receiver → Receiver → Type 0
@@ -28,10 +29,7 @@ judged-trimmed r a false false k b n h = absurd (false≢true h)
 pub trimmed-keeps : (r : Receiver) (a : Arrival) → (trimmed (a .flags) || trimmed-last-hop (a .flags)) ≡ true → left r (arrive r a) ≡ r
 unfolding arrive verdict
 trimmed-keeps r a h =
-    let all : After (Same r) r (arrive r a) =
-    after-refuse (Same r) r _ _ _ refl λ _. after-refuse (Same r) r _ _ _ refl λ _.
-    after-refuse (Same r) r _ _ _ refl λ _. after-refuse (Same r) r _ _ _ refl λ _.
-    judged-trimmed r a _ _ _ _ _ h in
+    let all : After (Same r) r (arrive r a) = after-unless (Same r) r (arrive-refusals r a) _ refl λ _. judged-trimmed r a _ _ _ _ _ h in
     all .holds
 
 -- ---- "Reading a clear bitmap bit as loss, or un-retiring by it"

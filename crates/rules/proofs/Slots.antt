@@ -6,12 +6,13 @@ use mathlib.Core.Logic.{_≢_}
 use Prim.Native.Nat.{ℕ}
 use lib.ListN.{length, set, length-set, length-replicate}
 use lib.Seq.{getD-set-other}
-use Rattle.rules.specs.Outcome.{Outcome, Refused, Done, left, within}
-use Rattle.rules.specs.Connection.{Connection, empty, step}
-use Rattle.rules.specs.Table.{at, on, emptied}
+use Rattle.promise.specs.Outcome.{Outcome, Refused, Done, left, within}
+use Rattle.rules.specs.Connection.{Connection, empty}
+use Rattle.rules.specs.Table.{at, in-slot, on, on-refusals, emptied}
 use Rattle.rules.specs.declared.Event.{Event}
+use Rattle.rules.specs.declared.Answer.{Answer}
 use Rattle.lists.proofs.Lists.{getD-alike}
-use Rattle.rules.proofs.Outcomes.{refused-keeps, After, after-refuse, after-refused, after-done}
+use Rattle.promise.proofs.Outcomes.{refused-keeps, After, after-unless, after-refused, after-done}
 
 -- as long as the table t, and the same in every slot but one
 pub record Elsewhere (slot : ℕ) (t u : List Connection) : Type 0 where
@@ -21,7 +22,7 @@ pub record Elsewhere (slot : ℕ) (t u : List Connection) : Type 0 where
 nowhere : (slot : ℕ) (t : List Connection) → Elsewhere slot t t
 nowhere slot t = record { long = refl; same = λ other h. refl }
 
-stored : (t : List Connection) (slot : ℕ) (o : Outcome Connection) → After (Elsewhere slot t) t (within (set t slot) o)
+stored : (t : List Connection) (slot : ℕ) (o : Outcome Answer Connection) → After (Elsewhere slot t) t (within (set t slot) o)
 unfolding within
 stored t slot (Refused n) = after-refused (Elsewhere slot t) t n (nowhere slot t)
 stored t slot (Done c a) =
@@ -31,8 +32,7 @@ stored t slot (Done c a) =
 pub elsewhere : (t : List Connection) (slot : ℕ) (e : Event) → After (Elsewhere slot t) t (on t slot e)
 unfolding on
 elsewhere t slot e =
-    after-refuse (Elsewhere slot t) t _ _ _ (nowhere slot t) λ _. after-refuse (Elsewhere slot t) t _ _ _ (nowhere slot t) λ _.
-    stored t slot (step (at t slot) e)
+    after-unless (Elsewhere slot t) t (on-refusals t slot) _ (nowhere slot t) λ _. stored t slot (in-slot (at t slot) e)
 
 -- "a refused call changes no record", in no slot
 pub refused-table : (t : List Connection) (slot : ℕ) (e : Event) (n : ℕ) → on t slot e ≡ Refused n → left t (on t slot e) ≡ t

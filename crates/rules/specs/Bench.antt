@@ -4,26 +4,54 @@ use mathlib.Core.Path.{_≡_}
 use mathlib.Core.List.{List, [], _∷_, map}
 use Prim.Native.Nat.{ℕ, zero, suc, _^_}
 use lib.ListN.{length}
+use Rattle.promise.specs.Line.{Line, refused, done}
+use Rattle.promise.specs.Outcome.{left}
 use Rattle.rules.specs.Numbers.{psn}
-use Rattle.rules.specs.Outcome.{left, answered}
+use Rattle.rules.specs.Receiving.{Arrive}
 use Rattle.rules.specs.Connection.{Connection, empty, start, step}
-use Rattle.rules.specs.Paper.{Line, refused, done, paper, read-line}
+use Rattle.rules.specs.Kinds.{plain}
+use Rattle.rules.specs.Paper.{answered, paper, read-line}
 use Rattle.rules.specs.Log.{read, whole}
 use Rattle.rules.specs.Replay.{Replied, Last, End, Log, replay}
-use Rattle.rules.specs.declared.Event.{Event}
-use Rattle.rules.specs.declared.Event.the-variants.{Send, Arrive, Sack, Nack, Resend}
+use Rattle.rules.specs.declared.Sending.the-variants.{Send, Sack, Nack, Resend}
+use Rattle.rules.specs.declared.Use.{Use}
+use Rattle.rules.specs.declared.Use.the-variants.{Sends, Receives}
 use Rattle.rules.specs.declared.Read.the-variants.{Record, Nothing}
 
--- the lines of events, one after the other
-unfoldable pub lines : Connection → List Event → List Line
+-- a row's name on the bench: R1 to R6, S1 to S5, what is given before the first, and what follows the last: a SACK that comes late
+pub data Label : Type 0 where
+  R : ℕ → Label
+  S : ℕ → Label
+  Given : Label
+  Late : Label
+
+-- an event on the bench's connection, and the line that comes back
+pub record Row : Type 0 where
+  pub label : Label
+  pub asked : Use
+  pub told : Line
+
+pub data Case : Type 0 where
+  -- events one after the other
+  Events : List Row → Case
+  -- a log's records, and what ends it
+  Records : List ℕ → List Line → Case
+  -- a log's answers, and its last line's numbers
+  Answers : List ℕ → List Line → Case
+
+-- ---- what the rules say
+unfoldable pub lines : Connection → List Row → List Line
 lines c [] = []
-lines c (e ∷ l) = paper (answered (step c e)) ∷ lines (left c (step c e)) l
+lines c (r ∷ l) = paper (answered (step c (r .asked))) ∷ lines (left c (step c (r .asked))) l
 
 -- "Receiver, room 64, first PSN 16,777,214"; "Sender, room 64, first PSN 10"
 unfoldable pub bench : Connection
-bench = left empty (start 64 (psn 10) 64 (psn 16777214))
+bench = left empty (start (record {
+  sending = record { room = 64; first = psn 10 };
+  receiving = record { room = 64; first = psn 16777214 };
+  options = plain;
+}))
 
--- the lines of a log's records from a place on, and of what ends it
 unfoldable pub records : ℕ → List ℕ → ℕ → List Line
 records zero log place = []
 records (suc most) log place = elim (read log place) [
@@ -31,7 +59,6 @@ records (suc most) log place = elim (read log place) [
   | Nothing n ↦ read-line (Nothing n) ∷ []
 ]
 
--- the lines of a log's answers, and the last line's numbers
 unfoldable pub ends : Last → Line
 ends (End n) = done 0 (n ∷ []) []
 ends (Log r o) = done r (o ∷ []) []
@@ -40,29 +67,29 @@ unfoldable pub answers : List Replied → Last → List Line
 answers [] last = ends last ∷ []
 answers (r ∷ l) last = paper (r .answer) ∷ answers l last
 
-pub data Asked : Type 0 where
-  Events : List Event → Asked
-  Records : List ℕ → Asked
-  Answers : List ℕ → Asked
-
-unfoldable pub told : Asked → List Line
+unfoldable pub told : Case → List Line
 told (Events l) = lines bench l
-told (Records log) = records (suc (length log)) log 0
-told (Answers log) = answers (replay log .lines) (replay log .last)
+told (Records log l) = records (suc (length log)) log 0
+told (Answers log l) = answers (replay log .lines) (replay log .last)
 
-pub record Case : Type 0 where
-  pub asked : Asked
-  pub expected : List Line
+-- ---- what the bench says
+abbrev pub row-told : Row → Line
+row-told r = r .told
+
+unfoldable pub expected : Case → List Line
+expected (Events l) = map row-told l
+expected (Records log l) = l
+expected (Answers log l) = l
+
+abbrev pub row : Label → Use → Line → Row
+row l e t = record { label = l; asked = e; told = t }
 
 -- an arrival of 100 bytes with no flags
-abbrev pub arrives : ℕ → Event
-arrives p = Arrive (record { psn = psn p; size = 100; flags = 0; entropy = 7 })
+abbrev pub arrives : ℕ → Use
+arrives p = Receives (Arrive (record { psn = psn p; size = 100; flags = 0; entropy = 7 }))
 
-abbrev pub sacks : ℕ → ℕ → ℕ → Event
-sacks cack base bitmap = Sack (psn cack) (record { base = psn base; bitmap = bitmap })
-
-abbrev pub nacks : ℕ → ℕ → Event
-nacks p reason = Nack (psn p) reason
+abbrev pub sacks : ℕ → ℕ → ℕ → Use
+sacks cack base bitmap = Sends (Sack (psn cack) (record { base = psn base; bitmap = bitmap }))
 
 -- the arrival answer, cack, base, bitmap and count / 256 of a SACK; the arrival answer, PSN and reason of a NACK
 abbrev pub acked : ℕ → ℕ → ℕ → ℕ → ℕ → Line
@@ -71,39 +98,37 @@ acked v cack base bitmap count = done 4 (v ∷ cack ∷ base ∷ bitmap ∷ coun
 abbrev pub nacked : ℕ → ℕ → ℕ → Line
 nacked v p reason = done 4 (v ∷ p ∷ 7 ∷ 0 ∷ []) (reason ∷ [])
 
--- R1 to R6
-abbrev pub receiving : Case
-receiving = record {
-  asked = Events (arrives 16777215 ∷ arrives 16777214 ∷ arrives 16777215 ∷ arrives 63 ∷ arrives 64 ∷ arrives 8388607 ∷ arrives 8388608 ∷ []);
-  expected = acked 0 16777213 16777214 2 0
-      ∷ acked 0 16777215 0 0 0
-      ∷ acked 1 16777215 0 0 0
-      ∷ acked 0 16777215 0 (2 ^ 63) 1
-      ∷ nacked 2 64 3
-      ∷ nacked 2 8388607 3
-      ∷ acked 1 16777215 0 (2 ^ 63) 1
-      ∷ [];
-}
+-- newly retired, the place and held bytes
+abbrev pub retired : ℕ → ℕ → ℕ → Line
+retired newly place held = done 5 (newly ∷ place ∷ held ∷ []) []
+
+abbrev pub receiving : List Row
+receiving =
+    row (R 1) (arrives 16777215) (acked 0 16777213 16777214 2 0)
+    ∷ row (R 2) (arrives 16777214) (acked 0 16777215 0 0 0)
+    ∷ row (R 3) (arrives 16777215) (acked 1 16777215 0 0 0)
+    ∷ row (R 4) (arrives 63) (acked 0 16777215 0 (2 ^ 63) 1)
+    ∷ row (R 5) (arrives 64) (nacked 2 64 3)
+    ∷ row (R 6) (arrives 8388607) (nacked 2 8388607 3)
+    ∷ row (R 6) (arrives 8388608) (acked 1 16777215 0 (2 ^ 63) 1)
+    ∷ []
 
 -- "four sends of 100", S1 to S5, and then a SACK whose cack is behind the place: "its set bits still count"
-abbrev pub sending : Case
-sending = record {
-  asked = Events (Send 100 ∷ Send 100 ∷ Send 100 ∷ Send 100 ∷ sacks 13 14 1 ∷ sacks 9 10 10 ∷ sacks 9 10 10
-      ∷ nacks 12 1 ∷ Resend ∷ Resend ∷ sacks 11 12 0 ∷ sacks 9 12 1 ∷ []);
-  expected = done 3 (10 ∷ []) []
-      ∷ done 3 (11 ∷ []) []
-      ∷ done 3 (12 ∷ []) []
-      ∷ done 3 (13 ∷ []) []
-      ∷ refused 8
-      ∷ done 5 (2 ∷ 9 ∷ 200 ∷ []) []
-      ∷ done 5 (0 ∷ 9 ∷ 200 ∷ []) []
-      ∷ done 6 (1 ∷ []) []
-      ∷ done 8 (12 ∷ []) []
-      ∷ refused 9
-      ∷ done 5 (1 ∷ 11 ∷ 100 ∷ []) []
-      ∷ done 5 (1 ∷ 13 ∷ 0 ∷ []) []
-      ∷ [];
-}
+abbrev pub sending : List Row
+sending =
+    row Given (Sends (Send 100)) (done 3 (10 ∷ []) [])
+    ∷ row Given (Sends (Send 100)) (done 3 (11 ∷ []) [])
+    ∷ row Given (Sends (Send 100)) (done 3 (12 ∷ []) [])
+    ∷ row Given (Sends (Send 100)) (done 3 (13 ∷ []) [])
+    ∷ row (S 1) (sacks 13 14 1) (refused 8)
+    ∷ row (S 2) (sacks 9 10 10) (retired 2 9 200)
+    ∷ row (S 3) (sacks 9 10 10) (retired 0 9 200)
+    ∷ row (S 4) (Sends (Nack (psn 12) 1)) (done 6 (1 ∷ []) [])
+    ∷ row (S 4) (Sends Resend) (done 8 (12 ∷ []) [])
+    ∷ row (S 4) (Sends Resend) (refused 9)
+    ∷ row (S 5) (sacks 11 12 0) (retired 1 11 100)
+    ∷ row Late (sacks 9 12 1) (retired 1 13 0)
+    ∷ []
 
 -- L
 abbrev pub log-L : List ℕ
@@ -113,33 +138,22 @@ log-L =
     ∷ 0x4D ∷ 0x52 ∷ 0x04 ∷ 0x00 ∷ 0x00 ∷ 0x00 ∷ 0x0A ∷ 0x00 ∷ 0x64 ∷ 0x00 ∷ 0x00 ∷ 0x00 ∷ 0x00 ∷ 0x07 ∷ []
 
 -- its reading: the event's kind, the place after the record, the slot, the event's fields; then the end
-abbrev pub reading-L : Case
-reading-L = record {
-  asked = Records log-L;
-  expected = done 1 (1 ∷ 14 ∷ 0 ∷ 64 ∷ 10 ∷ 64 ∷ 10 ∷ []) []
-      ∷ done 3 (3 ∷ 20 ∷ 0 ∷ 100 ∷ []) []
-      ∷ done 4 (4 ∷ 34 ∷ 0 ∷ 10 ∷ 100 ∷ 0 ∷ 7 ∷ []) []
-      ∷ refused 0
-      ∷ [];
-}
+abbrev pub reading-L : List Line
+reading-L =
+    done 1 (1 ∷ 14 ∷ 0 ∷ 64 ∷ 10 ∷ 64 ∷ 10 ∷ []) []
+    ∷ done 3 (3 ∷ 20 ∷ 0 ∷ 100 ∷ []) []
+    ∷ done 4 (4 ∷ 34 ∷ 0 ∷ 10 ∷ 100 ∷ 0 ∷ 7 ∷ []) []
+    ∷ refused 0
+    ∷ []
 
 -- its answers, and N of `end N`
-abbrev pub answers-L : Case
-answers-L = record {
-  asked = Answers log-L;
-  expected = done 1 [] [] ∷ done 3 (10 ∷ []) [] ∷ acked 0 10 11 0 0 ∷ done 0 (3 ∷ []) [] ∷ [];
-}
+abbrev pub answers-L : List Line
+answers-L = done 1 [] [] ∷ done 3 (10 ∷ []) [] ∷ acked 0 10 11 0 0 ∷ done 0 (3 ∷ []) [] ∷ []
 
 abbrev pub cases : List Case
-cases = receiving ∷ sending ∷ reading-L ∷ answers-L ∷ []
-
-abbrev pub case-asked : Case → Asked
-case-asked c = c .asked
-
-abbrev pub case-expected : Case → List Line
-case-expected c = c .expected
+cases = Events receiving ∷ Events sending ∷ Records log-L reading-L ∷ Answers log-L answers-L ∷ []
 
 -- the one claim: each case is answered as it says. "Whole lengths: 14, 4, 6, 14, 18, 8, 7, 4" stands beside it.
 pub record Starred : Type 0 where
-  pub as-worked : map told (map case-asked cases) ≡ map case-expected cases
+  pub as-worked : map told cases ≡ map expected cases
   pub lengths : map whole (1 ∷ 2 ∷ 3 ∷ 4 ∷ 5 ∷ 6 ∷ 7 ∷ 8 ∷ []) ≡ 14 ∷ 4 ∷ 6 ∷ 14 ∷ 18 ∷ 8 ∷ 7 ∷ 4 ∷ []

@@ -21,7 +21,7 @@ pub record Receives (r : Receiver) : Type 0 where
   pub count-low : r .count < 2 ^ 32
 
 -- an entry's size is one that a send takes, and it is not both retired and marked
-pub record Held (e : Entry) : Type 0 where
+pub record Good (e : Entry) : Type 0 where
   pub size-good : size-ok (e .size) ≡ true
   pub not-both : (e .retired && e .marked) ≡ false
 
@@ -31,7 +31,7 @@ pub record Sends (x : Sender) : Type 0 where
   pub place-low : x .place < turn
   pub room-left : outstanding x ≤ x .room
   pub first-open : getD (map is-retired (x .entries)) 0 false ≡ false
-  pub entries-held : All Held (x .entries)
+  pub entries-good : All Good (x .entries)
 
 pub record Runs (c : Connection) : Type 0 where
   pub sends : Sends (c .sender)

@@ -1,15 +1,16 @@
 -- Document 01 as definitions, in its own order. Nothing here is proved or run: proofs/ has the theorems.
 pub mod Numbers
-pub mod Outcome
 pub mod Receiver
+pub mod Receiving
 pub mod Sender
 pub mod Retire
 pub mod Marks
+pub mod Sending
 pub mod Connection
 pub mod Table
 pub mod Kept
+pub mod Kinds
 pub mod Paper
-pub mod Promise
 pub mod Log
 pub mod Replay
 pub mod Bench

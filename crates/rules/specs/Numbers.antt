@@ -70,3 +70,7 @@ slots = 16
 -- "A log is at most 32,768 bytes"
 abbrev pub longest-log : ℕ
 longest-log = 32768
+
+-- "Each record begins with the two bytes 4D 52, then kind, then slot (one byte)"
+abbrev pub record-head : ℕ
+record-head = 4

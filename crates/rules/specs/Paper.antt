@@ -2,8 +2,9 @@
 use mathlib.Core.Bool.{Bool, cond}
 use mathlib.Core.List.{List, [], _∷_}
 use Prim.Native.Nat.{ℕ}
-use Rattle.rules.specs.declared.Event.{Event}
-use Rattle.rules.specs.declared.Event.the-variants as event
+use Rattle.promise.specs.Line.{Line, refused, done}
+use Rattle.promise.specs.Outcome.{Outcome, Refused, Done}
+use Rattle.rules.specs.Kinds.{kind-of, fields-of}
 use Rattle.rules.specs.declared.Verdict.{Verdict}
 use Rattle.rules.specs.declared.Verdict.the-variants.{Fresh, Known, Beyond, NoBuffer, Trim, TrimLastHop}
 use Rattle.rules.specs.declared.Answer.{Answer}
@@ -12,22 +13,6 @@ use Rattle.rules.specs.declared.Read.{Read}
 use Rattle.rules.specs.declared.Read.the-variants as reading
 use Rattle.rules.specs.declared.Written.{Written}
 use Rattle.rules.specs.declared.Written.the-variants as writing
-
--- The kind that is answered, 0 beside a refusal; 0 for done, or the refusal's number; the values that the program prints; the
--- values that only the library hands out.
-pub record Line : Type 0 where
-  pub kind : ℕ
-  pub number : ℕ
-  pub values : List ℕ
-  pub unprinted : List ℕ
-
--- "A refusal carries its number only, every value beside it is 0"
-abbrev pub refused : ℕ → Line
-refused n = record { kind = 0; number = n; values = []; unprinted = [] }
-
--- "0 is done"
-abbrev pub done : ℕ → List ℕ → List ℕ → Line
-done k l m = record { kind = k; number = 0; values = l; unprinted = m }
 
 abbrev pub digit : Bool → ℕ
 digit b = cond b 1 0
@@ -58,27 +43,10 @@ paper (answer.Marked n) = done 6 (n ∷ []) []
 paper (answer.Expired n) = done 7 (n ∷ []) []
 paper (answer.Resent p) = done 8 (p .0 ∷ []) []
 
--- 01, The event log: "1 start: send room 2, send PSN, receive room 2, receive PSN. 2 close. 3 send: size 2. 4 arrive: PSN, size 2, flags
--- 1, entropy 4. 5 SACK: cack, base, bitmap 8. 6 NACK: PSN, reason 1. 7 timer: PSN. 8 resend."
-unfoldable pub kind-of : Event → ℕ
-kind-of (event.Start a b c d) = 1
-kind-of event.Close = 2
-kind-of (event.Send z) = 3
-kind-of (event.Arrive a) = 4
-kind-of (event.Sack c b) = 5
-kind-of (event.Nack p n) = 6
-kind-of (event.Timer p) = 7
-kind-of event.Resend = 8
-
-unfoldable pub fields-of : Event → List ℕ
-fields-of (event.Start a b c d) = a ∷ b .0 ∷ c ∷ d .0 ∷ []
-fields-of event.Close = []
-fields-of (event.Send z) = z ∷ []
-fields-of (event.Arrive a) = a .psn .0 ∷ a .size ∷ a .flags ∷ a .entropy ∷ []
-fields-of (event.Sack c b) = c .0 ∷ b .base .0 ∷ b .bitmap ∷ []
-fields-of (event.Nack p n) = p .0 ∷ n ∷ []
-fields-of (event.Timer p) = p .0 ∷ []
-fields-of event.Resend = []
+-- the answer of an outcome
+unfoldable pub answered : {S : Type 0} → Outcome Answer S → Answer
+answered (Refused n) = answer.Refused n
+answered (Done y a) = a
 
 -- "A record read gives its event, kind, body and the place after it; on a refusal or at the end there is no event, kind and place are
 -- 0". The body is a part of the log and is told apart (`body` of Log).

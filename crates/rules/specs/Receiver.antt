@@ -1,20 +1,21 @@
 -- 01, The receiving side.
 use mathlib.Core.Bool.{Bool, true, false, not, cond, _||_}
-use mathlib.Core.List.{List, []}
+use mathlib.Core.List.{List, [], _∷_}
 use Prim.Native.Nat.{ℕ, _+_, _*_, _/_, _%_, _^_}
 use lib.Dec.{leb, ltb, eqb}
 use lib.ListN.{length, getD, take, drop, set, replicate}
-use Rattle.rules.specs.Numbers.{before, behind, after, distance, psn, psn-ok, room-ok, size-ok, flags-ok, ecn, rtx, trimmed, trimmed-last-hop, no-buffer}
+use Rattle.rules.specs.Numbers.{before, behind, after, distance, psn, psn-ok, room-ok, ecn, rtx, trimmed, trimmed-last-hop, no-buffer}
 use Rattle.lists.specs.Lists.{lead, slide, pack}
-use Rattle.rules.specs.Outcome.{Outcome, Done, refuse, started}
+use Rattle.promise.specs.Outcome.{Outcome, Done, Refusals, unless}
 use Rattle.rules.specs.declared.Arrival.{Arrival}
 use Rattle.rules.specs.declared.Block.{Block}
 use Rattle.rules.specs.declared.Sack.{Sack}
 use Rattle.rules.specs.declared.Nack.{Nack}
 use Rattle.rules.specs.declared.Verdict.{Verdict}
 use Rattle.rules.specs.declared.Verdict.the-variants.{Fresh, Known, Beyond, NoBuffer, Trim, TrimLastHop}
+use Rattle.rules.specs.declared.Answer.{Answer}
 use Rattle.rules.specs.declared.Answer.the-variants as answer
-use Rattle.psn.specs.declared.Psn.{Psn}
+use Rattle.rules.specs.declared.Opening.{Opening}
 
 -- "It holds its room, the expected PSN E .., which PSNs of E to E + room - 1 are accepted, and a 32-bit count of bytes that wraps."
 -- Entry o of the window says whether E + o is accepted.
@@ -37,8 +38,12 @@ unused r = eqb (room r) 0
 unfoldable pub fresh : ℕ → ℕ → Receiver
 fresh n first = record { expected = first; window = replicate n false; count = 0 }
 
-unfoldable pub start : ℕ → Psn → Outcome Receiver
-start n first = started (room-ok n) (psn-ok first) (fresh n (first .0))
+-- refusals 4, 5
+unfoldable pub start-refusals : Opening → Refusals
+start-refusals s = (not (room-ok (s .room)), 4) ∷ (not (psn-ok (s .first)), 5) ∷ []
+
+unfoldable pub start : Opening → Outcome Answer Receiver
+start s = unless (start-refusals s) (Done (fresh (s .room) (s .first .0)) answer.Started)
 
 -- rules 1 to 5, "Judged in this order": trimmed, trimmed at the last hop, known, beyond, no buffer
 unfoldable pub judge : Bool → Bool → Bool → Bool → Bool → Verdict
@@ -110,19 +115,10 @@ unfoldable pub nack-of : Verdict → Arrival → Nack
 nack-of v a = record { psn = a .psn; reason = reason-of v; entropy = a .entropy; rtx = rtx (a .flags) }
 
 -- "Answers 0 and 1 bring a SACK, the others a NACK"; only a fresh packet changes the record
-unfoldable pub judged : Receiver → Arrival → Verdict → Outcome Receiver
+unfoldable pub judged : Receiver → Arrival → Verdict → Outcome Answer Receiver
 judged r a Fresh = let r′ = accept r a in Done r′ (answer.Acked Fresh (sack-of r′ a))
 judged r a Known = Done r (answer.Acked Known (sack-of r a))
 judged r a Beyond = Done r (answer.Nacked Beyond (nack-of Beyond a))
 judged r a NoBuffer = Done r (answer.Nacked NoBuffer (nack-of NoBuffer a))
 judged r a Trim = Done r (answer.Nacked Trim (nack-of Trim a))
 judged r a TrimLastHop = Done r (answer.Nacked TrimLastHop (nack-of TrimLastHop a))
-
--- refusals 2, 5, 6, 14
-unfoldable pub arrive : Receiver → Arrival → Outcome Receiver
-arrive r a =
-    refuse (unused r) 2
-    (refuse (not (psn-ok (a .psn))) 5
-    (refuse (not (size-ok (a .size))) 6
-    (refuse (not (flags-ok (a .flags))) 14
-    (judged r a (verdict r a)))))

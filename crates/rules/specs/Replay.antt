@@ -5,10 +5,10 @@ use Prim.Native.Nat.{ℕ, zero, suc}
 use lib.Dec.{eqb}
 use lib.ListN.{length, replicate}
 use Rattle.rules.specs.Numbers.{slots, longest-log}
-use Rattle.rules.specs.Outcome.{left, answered}
+use Rattle.promise.specs.Outcome.{left}
 use Rattle.rules.specs.Connection.{Connection, empty}
 use Rattle.rules.specs.Table.{on}
-use Rattle.rules.specs.Paper.{paper}
+use Rattle.rules.specs.Paper.{paper, answered}
 use Rattle.rules.specs.Log.{read}
 use Rattle.rules.specs.declared.Answer.{Answer}
 use Rattle.rules.specs.declared.Read.{Read}

@@ -5,14 +5,13 @@ use Prim.Native.Nat.{ℕ, zero, suc, _+_}
 use lib.Dec.{leb, ltb}
 use lib.ListN.{drop}
 use Rattle.word.specs.Word.{bit-at}
-use Rattle.rules.specs.Numbers.{behind, after, distance, psn, psn-ok}
+use Rattle.rules.specs.Numbers.{behind, after, distance, psn}
 use Rattle.lists.specs.Lists.{lead, any}
-use Rattle.rules.specs.Outcome.{Outcome, Done, refuse}
-use Rattle.rules.specs.Sender.{Entry, Sender, outstanding, nth, held, unused, unsent}
+use Rattle.promise.specs.Outcome.{Outcome, Done}
+use Rattle.rules.specs.Sender.{Entry, Sender, outstanding, nth, held, unsent}
 use Rattle.rules.specs.declared.Block.{Block}
 use Rattle.rules.specs.declared.Answer.{Answer}
 use Rattle.rules.specs.declared.Answer.the-variants as answer
-use Rattle.psn.specs.declared.Psn.{Psn}
 
 -- "cack at distance 0 to (next - 1 - place) from the place retires all to cack; cack behind the place retires nothing by itself;
 -- otherwise it names unsent"
@@ -69,10 +68,5 @@ report x cack b =
     let y = after-sack x cack b in
     answer.Retired (newly (named x cack b) (x .entries)) (psn (y .place)) (held y)
 
--- refusals 2, 5, 8, all before anything is retired
-unfoldable pub sack : Sender → Psn → Block → Outcome Sender
-sack x cack b =
-    refuse (unused x) 2
-    (refuse (not (psn-ok cack && psn-ok (b .base))) 5
-    (refuse (names-unsent x (cack .0) b) 8
-    (Done (after-sack x (cack .0) b) (report x (cack .0) b))))
+unfoldable pub acknowledged : Sender → ℕ → Block → Outcome Answer Sender
+acknowledged x cack b = Done (after-sack x cack b) (report x cack b)

@@ -1,14 +1,15 @@
--- 01, The sending side: its record, start and send.
+-- 01, The sending side: its record, its start, and what a send adds.
 use mathlib.Core.Bool.{Bool, false, not, cond, _&&_}
 use mathlib.Core.List.{List, [], _∷_, _++_, map}
 use Prim.Native.Nat.{ℕ, _+_}
 use lib.Dec.{leb, eqb}
 use lib.ListN.{length}
-use Rattle.rules.specs.Numbers.{before, behind, after, distance, psn, psn-ok, room-ok, size-ok}
+use Rattle.rules.specs.Numbers.{before, behind, after, distance, psn, psn-ok, room-ok}
 use Rattle.lists.specs.Lists.{sum}
-use Rattle.rules.specs.Outcome.{Outcome, Done, refuse, started}
+use Rattle.promise.specs.Outcome.{Outcome, Done, Refusals, unless}
+use Rattle.rules.specs.declared.Answer.{Answer}
 use Rattle.rules.specs.declared.Answer.the-variants as answer
-use Rattle.psn.specs.declared.Psn.{Psn}
+use Rattle.rules.specs.declared.Opening.{Opening}
 
 -- "for each PSN from place + 1 to next - 1 its size, whether retired, whether marked for resending"
 pub record Entry : Type 0 where
@@ -51,8 +52,12 @@ unused x = eqb (x .room) 0
 unfoldable pub fresh : ℕ → ℕ → Sender
 fresh n first = record { room = n; place = before first; entries = [] }
 
-unfoldable pub start : ℕ → Psn → Outcome Sender
-start n first = started (room-ok n) (psn-ok first) (fresh n (first .0))
+-- refusals 4, 5
+unfoldable pub start-refusals : Opening → Refusals
+start-refusals s = (not (room-ok (s .room)), 4) ∷ (not (psn-ok (s .first)), 5) ∷ []
+
+unfoldable pub start : Opening → Outcome Answer Sender
+start s = unless (start-refusals s) (Done (fresh (s .room) (s .first .0)) answer.Started)
 
 unfoldable pub with-entries : Sender → List Entry → Sender
 with-entries x l = record { room = x .room; place = x .place; entries = l }
@@ -61,12 +66,8 @@ with-entries x l = record { room = x .room; place = x .place; entries = l }
 abbrev pub new : ℕ → Entry
 new size = record { size = size; retired = false; marked = false }
 
-unfoldable pub send : Sender → ℕ → Outcome Sender
-send x size =
-    refuse (unused x) 2
-    (refuse (not (size-ok size)) 6
-    (refuse (leb (x .room) (outstanding x)) 7
-    (Done (with-entries x (x .entries ++ (new size ∷ []))) (answer.Sent (psn (next x))))))
+unfoldable pub sent : Sender → ℕ → Outcome Answer Sender
+sent x size = Done (with-entries x (x .entries ++ (new size ∷ []))) (answer.Sent (psn (next x)))
 
 -- ---- which PSNs are unsent
 -- from place + 1 to a PSN

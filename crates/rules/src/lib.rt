@@ -20,7 +20,25 @@ pub const LARGEST_SIZE: u16 = 9216;
 // The longest log in bytes.
 pub const LONGEST_LOG: usize = 32_768;
 
-// A packet as it arrives. Flag bits: 0 ECN mark, 1 RTX, 2 trimmed, 3 trimmed at the last hop, 4 no buffer.
+// How many kinds of record a log has, from 1 on, and the bytes of a record before its fields.
+pub const KINDS: u8 = 8;
+
+pub const RECORD_HEAD: usize = 4;
+
+// A packet's flags by their bits, and the first number that has another bit.
+pub const ECN: u32 = 0;
+
+pub const RTX: u32 = 1;
+
+pub const TRIMMED: u32 = 2;
+
+pub const TRIMMED_LAST_HOP: u32 = 3;
+
+pub const NO_BUFFER: u32 = 4;
+
+pub const FLAGS_END: u8 = 32;
+
+// A packet as it arrives.
 pub struct Arrival {
     pub psn: Psn,
     pub size: u16,
@@ -34,31 +52,45 @@ pub struct Block {
     pub bitmap: u64,
 }
 
-// An event, with the fields of its kind.
-pub enum Event {
-    Start {
-        send_room: u16,
-        send_psn: Psn,
-        receive_room: u16,
-        receive_psn: Psn,
-    },
-    Close,
-    Send {
-        size: u16,
-    },
-    Arrive(Arrival),
-    Sack {
-        cack: Psn,
-        block: Block,
-    },
-    Nack {
-        psn: Psn,
-        reason: u8,
-    },
-    Timer {
-        psn: Psn,
-    },
+// The start of one side: its room and its first packet number.
+pub struct Opening {
+    pub room: u16,
+    pub first: Psn,
+}
+
+// What a connection may have beside its two sides. Nothing yet.
+pub struct Options {}
+
+// The start of a connection.
+pub struct Start {
+    pub sending: Opening,
+    pub receiving: Opening,
+    pub options: Options,
+}
+
+// An event of the sending side.
+pub enum Sending {
+    Send { size: u16 },
+    Sack { cack: Psn, block: Block },
+    Nack { psn: Psn, reason: u8 },
+    Timer { psn: Psn },
     Resend,
+}
+
+// An event of the receiving side: an arrival is the only one.
+pub type Receiving = Arrival;
+
+// What befalls a connection in use.
+pub enum Use {
+    Close,
+    Sends(Sending),
+    Receives(Receiving),
+}
+
+// An event on a slot.
+pub enum Event {
+    Start(Start),
+    Use(Use),
 }
 
 // How an arrival is judged.
@@ -107,6 +139,12 @@ pub enum Answer {
     Expired(u8),
     // The packet number to send again.
     Resent(Psn),
+}
+
+// A field of a record: a packet number, or a number of so many bits.
+pub enum Cell {
+    Psn,
+    Bits(u8),
 }
 
 // What reading a log at a place gives.

@@ -1,4 +1,5 @@
--- What every started record has, from its fields: few entries, small sizes, and a record in use was started. Assumes nothing.
+-- What every record has, from its fields: its entries are as many as it says, few and of small sizes where it was started, and a record in use
+-- was started. Assumes nothing.
 use mathlib.Core.Path.{_≡_, ap, _∙_}
 use mathlib.Core.Bool.{Bool, true, false, cond}
 use mathlib.Core.Logic.{⊎-elim}
@@ -6,12 +7,12 @@ use Prim.Native.Nat.{ℕ, zero, suc, _+_, _*_, _≤_, _<_}
 use native.Mathlib.Omega.{arith}
 use lib.Dec.{leb}
 use lib.ListN.{length}
-use borrow.Author.Tests.{leb-true}
+use borrow.Author.Tests.{leb-true, eq-eqb, ne-eqb}
 use Rattle.lists.specs.Index.{total}
 use Rattle.lists.proofs.Index.{length-table, map-table}
 use Rattle.rules.specs.Numbers.{after, size-ok, largest-room, least-size, largest-size}
 use Rattle.lists.specs.Lists.{sum}
-use Rattle.rules.specs.Sender.{Entry, next, size-held, held}
+use Rattle.rules.specs.Sender.{Entry, outstanding, unused, next, size-held, held}
 use Rattle.lists.proofs.Joined.{and-true-each}
 use Rattle.rules.proofs.Allowed.{room-numbers}
 use Rattle.sender.specs.declared.Sender.{Sender}
@@ -65,3 +66,17 @@ module _ (x : Sender) (h : Started x) where
 -- a record in use was started
 pub in-use : (x : Sender) → Sound x → (x .room ≡ 0 → ⊥) → Started x
 in-use x s n = ⊎-elim (λ e. absurd (n (ap (λ (y : Sender). y .room) e))) (λ h. h) s
+
+-- ---- whether it is in use, and whether there is room, as the rules ask
+module _ (x : Sender) where
+  pub is-unused : x .room ≡ 0 → unused (meaning x) ≡ true
+  unfolding meaning
+  is-unused = eq-eqb (x .room) 0
+
+  pub is-used : (x .room ≡ 0 → ⊥) → unused (meaning x) ≡ false
+  unfolding meaning
+  is-used = ne-eqb (x .room) 0
+
+  pub full-is : leb (meaning x .room) (outstanding (meaning x)) ≡ leb (x .room) (x .outstanding)
+  unfolding meaning
+  full-is = ap (leb (x .room)) (length-entries x)

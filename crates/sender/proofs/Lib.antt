@@ -1,10 +1,9 @@
 -- What the functions' proofs share, from the general laws to one event each; and that each promise settles its outcome. Assumes nothing.
 pub mod Entries
-pub mod Ways
 pub mod Starting
 pub mod Sent
 pub mod Marked
-pub mod Nearest
 pub mod Judged
+pub mod Resent
 pub mod Acknowledged
 pub mod Settled

@@ -8,7 +8,9 @@ use lib.ListN.{length, getD, replicate}
 use Rattle.lists.specs.Index.{table, total}
 use Rattle.row.specs.Row.{at}
 use Rattle.rules.specs.Numbers.{turn, psn, room-ok, size-ok, largest-room, words}
-use Rattle.rules.specs.Outcome.{left, answered}
+use Rattle.promise.specs.Outcome.{Outcome, left}
+use Rattle.promise.specs.Promise.{Meets}
+use Rattle.rules.specs.Paper.{paper, answered}
 use Rattle.rules.specs.Sender.{Entry, size-held}
 use Rattle.rules.specs.Sender as rule
 use Rattle.rules.specs.Retire.{after-sack, report}
@@ -71,6 +73,10 @@ empty = record {
 -- "A record is empty (all zero) or comes from a start and the events after it"
 abbrev pub Sound : Sender → Type 0
 Sound x = (x ≡ empty) ⊎ Started x
+
+-- an event on the record x, whose rule gives o, is answered r
+abbrev pub Steps : Sender → Outcome Answer rule.Sender → Stepped → Type 0
+Steps x o r = Meets paper Sound meaning x o (r .answer) (r .«record»)
 
 -- ---- what the parts of an event promise one another
 abbrev pub with-marked : Sender → List ℕ → Sender

@@ -2,17 +2,19 @@
 // and those after it. The sizes stand by packet number modulo the largest room.
 ghost use mathlib.Core.Path.{_≡_};
 ghost use mathlib.Core.Bool.{false};
-ghost use Rattle.rules.specs.Sender.{index as index-of, send as send-of, start as start-of, unsent as unsent-of};
-ghost use Rattle.rules.specs.Retire.{names-unsent, sack as sack-of};
-ghost use Rattle.rules.specs.Marks.{nack as nack-of, resend as resend-of, timer as timer-of};
-ghost use Rattle.rules.specs.Promise.{Meets};
-ghost use Rattle.sender.specs.Record.{empty as empty-of, meaning, with-marked, Started, Sound, Marks, Acknowledges};
+ghost use Rattle.rules.specs.Sender.{index as index-of, start as start-of, unsent as unsent-of};
+ghost use Rattle.rules.specs.Retire.{names-unsent};
+ghost use Rattle.rules.specs.Sending.{nack as nack-of, resend as resend-of, sack as sack-of, send as send-of, step as step-of, timer as timer-of};
+ghost use Rattle.sender.specs.Record.{empty as empty-of, meaning, with-marked, Started, Sound, Steps, Marks, Acknowledges};
+use marks::Found;
 use psn::HALF;
 use psn::Psn;
 use psn::TURN;
 use rules::Answer;
 use rules::Block;
 use rules::LARGEST_ROOM;
+use rules::Opening;
+use rules::Sending;
 use rules::WORDS;
 
 // A size for each packet number of the largest room.
@@ -67,9 +69,11 @@ impl Sender {
     }
 
     // A start. Refused, it hands back the empty record.
-    pub fn start(room: u32, first: Psn) -> Stepped
-        ensures { λ r. ⌜ Meets Sound meaning empty-of (start-of room first) (r .answer) (r .record) ⌝ }
+    pub fn start(opening: Opening) -> Stepped
+        ensures { λ r. ⌜ Steps empty-of (start-of opening) r ⌝ }
     {
+        let room = opening.room as u32;
+        let first = opening.first;
         if !allowed::room_ok(room) {
             return Sender::empty().refused(4);
         }
@@ -97,7 +101,7 @@ impl Sender {
     // A packet of this size is sent.
     pub fn send(self, size: u16) -> Stepped
         requires { ⌜ Sound self ⌝ }
-        ensures { λ r. ⌜ Meets Sound meaning self (send-of (meaning self) size) (r .answer) (r .record) ⌝ }
+        ensures { λ r. ⌜ Steps self (send-of (meaning self) size) r ⌝ }
     {
         let room = self.room;
         let n = self.outstanding;
@@ -184,22 +188,9 @@ impl Sender {
                 record: self,
             };
         }
-        let p = (place.0 + 1) % 64 + i;
-        if row::test(&retired, p) {
-            return Marking {
-                newly: 0,
-                record: self,
-            };
-        }
-        if row::test(&marked, p) {
-            return Marking {
-                newly: 0,
-                record: self,
-            };
-        }
-        row::set(&mut marked, p);
+        let newly = marks::mark(&retired, &mut marked, (place.0 + 1) % 64 + i);
         Marking {
-            newly: 1,
+            newly,
             record: self.with_marked(marked),
         }
     }
@@ -207,7 +198,7 @@ impl Sender {
     // A timer ran out for a packet number.
     pub fn timer(self, psn: Psn) -> Stepped
         requires { ⌜ Sound self ⌝ }
-        ensures { λ r. ⌜ Meets Sound meaning self (timer-of (meaning self) psn) (r .answer) (r .record) ⌝ }
+        ensures { λ r. ⌜ Steps self (timer-of (meaning self) psn) r ⌝ }
     {
         let room = self.room;
         if room == 0 {
@@ -230,7 +221,7 @@ impl Sender {
     // A NACK for a packet number, with its reason.
     pub fn nack(self, psn: Psn, reason: u8) -> Stepped
         requires { ⌜ Sound self ⌝ }
-        ensures { λ r. ⌜ Meets Sound meaning self (nack-of (meaning self) psn reason) (r .answer) (r .record) ⌝ }
+        ensures { λ r. ⌜ Steps self (nack-of (meaning self) psn reason) r ⌝ }
     {
         let room = self.room;
         if room == 0 {
@@ -259,11 +250,10 @@ impl Sender {
         }
     }
 
-    // The marked packet number nearest after the place is handed out, and its mark cleared. The search goes over words and bits, steps
-    // over a word without a mark, and stops at the first found, which is its value.
+    // The marked packet number nearest after the place is handed out, and its mark cleared.
     pub fn resend(self) -> Stepped
         requires { ⌜ Sound self ⌝ }
-        ensures { λ r. ⌜ Meets Sound meaning self (resend-of (meaning self)) (r .answer) (r .record) ⌝ }
+        ensures { λ r. ⌜ Steps self (resend-of (meaning self)) r ⌝ }
     {
         let room = self.room;
         if room == 0 {
@@ -272,26 +262,15 @@ impl Sender {
         let place = self.place;
         let n = self.outstanding;
         let mut marked = self.marked;
-        let s = (place.0 + 1) % 64;
-        let mut p = s;
-        let psn = loop {
-            if s + n <= p {
-                return self.refused(9);
-            }
-            let w = row::word_at(&marked, (p / 64) as usize);
-            if w == 0 {
-                p = 64 * (p / 64) + 64;
-            } else {
-                if word::test(w, p) {
-                    break place.after(1 + (p - s));
+        match marks::nearest(&marked, place, n) {
+            Found::Nothing => self.refused(9),
+            Found::Marked(psn) => {
+                row::clear(&mut marked, (place.0 + 1) % 64 + self.index(psn));
+                Stepped {
+                    answer: Answer::Resent(psn),
+                    record: self.with_marked(marked),
                 }
-                p += 1;
             }
-        };
-        row::clear(&mut marked, p);
-        Stepped {
-            answer: Answer::Resent(psn),
-            record: self.with_marked(marked),
         }
     }
 
@@ -357,7 +336,7 @@ impl Sender {
     // A SACK: judged whole before anything is retired.
     pub fn sack(self, cack: Psn, block: Block) -> Stepped
         requires { ⌜ Sound self ⌝ }
-        ensures { λ r. ⌜ Meets Sound meaning self (sack-of (meaning self) cack block) (r .answer) (r .record) ⌝ }
+        ensures { λ r. ⌜ Steps self (sack-of (meaning self) cack block) r ⌝ }
     {
         let room = self.room;
         if room == 0 {
@@ -374,5 +353,19 @@ impl Sender {
             return self.refused(8);
         }
         self.acknowledge(cack, block)
+    }
+
+    // An event.
+    pub fn step(self, event: Sending) -> Stepped
+        requires { ⌜ Sound self ⌝ }
+        ensures { λ r. ⌜ Steps self (step-of (meaning self) event) r ⌝ }
+    {
+        match event {
+            Sending::Send { size } => self.send(size),
+            Sending::Sack { cack, block } => self.sack(cack, block),
+            Sending::Nack { psn, reason } => self.nack(psn, reason),
+            Sending::Timer { psn } => self.timer(psn),
+            Sending::Resend => self.resend(),
+        }
     }
 }

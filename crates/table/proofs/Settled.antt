@@ -4,29 +4,23 @@ use mathlib.Core.List.{List}
 use Prim.Native.Nat.{ℕ}
 use lib.ListN.{length, replicate}
 use Rattle.rules.specs.Numbers.{slots}
-use Rattle.rules.specs.Promise.{Meets}
-use Rattle.rules.specs.Table.{on}
 use Rattle.rules.specs.declared.Answer.{Answer}
 use Rattle.rules.specs.declared.Event.{Event}
 use Rattle.rules.proofs.Settled.{settled}
 use Rattle.connection.specs.declared.Connection.{Connection}
 use Rattle.connection.specs.Record.{empty}
-use Rattle.table.specs.declared.Answered.{Answered}
+use Rattle.table.specs.declared.Stepped.{Stepped}
 use Rattle.table.specs.declared.Table.{Table}
-use Rattle.table.specs.Slots.{AllSound, meaning}
+use Rattle.table.specs.Slots.{On, meaning}
 
--- what an event on a slot of the table t is to answer and to leave
-abbrev pub Allows : List Connection → ℕ → Event → Answer → List Connection → Type 0
-Allows t slot e a u = Meets AllSound meaning t (on (meaning t) slot e) a u
-
-pub event-settled : (t : List Connection) (slot : ℕ) (e : Event) (a b : Answer) (u v : List Connection) → Allows t slot e a u → Allows t slot e b v
+pub event-settled : (t : List Connection) (slot : ℕ) (e : Event) (a b : Answer) (u v : List Connection) → On t slot e a u → On t slot e b v
     → (a ≡ b) × (meaning u ≡ meaning v)
 event-settled t slot e a b u v = settled a b u v
 
-pub on-settled : (t : Table) (slot : ℕ) (e : Event) (r s : Answered) → Allows (t .slots) slot e (r .answer) (r .table .slots)
-    → Allows (t .slots) slot e (s .answer) (s .table .slots)
-    → (r .answer ≡ s .answer) × (meaning (r .table .slots) ≡ meaning (s .table .slots))
-on-settled t slot e r s = settled (r .answer) (s .answer) (r .table .slots) (s .table .slots)
+pub on-settled : (t : Table) (slot : ℕ) (e : Event) (r s : Stepped) → On (t .slots) slot e (r .answer) (r .«record» .slots)
+    → On (t .slots) slot e (s .answer) (s .«record» .slots)
+    → (r .answer ≡ s .answer) × (meaning (r .«record» .slots) ≡ meaning (s .«record» .slots))
+on-settled t slot e r s = settled (r .answer) (s .answer) (r .«record» .slots) (s .«record» .slots)
 
 -- a table emptied, lent or by value, is settled to the last word
 pub empty-all-settled : (t u v : List Connection) → u ≡ replicate (length t) empty → v ≡ replicate (length t) empty → u ≡ v

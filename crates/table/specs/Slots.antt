@@ -1,13 +1,11 @@
 -- A table of connections: what it means, and which there are.
-use mathlib.Core.Bool.{not, _&&_}
 use mathlib.Core.List.{List, map}
 use Prim.Native.Nat.{ℕ}
 use lib.ListN.{getD, replicate}
-use Rattle.rules.specs.Outcome.{Outcome, refuse}
-use Rattle.rules.specs.Promise.{Meets}
-use Rattle.rules.specs.Connection.{unused, step}
+use Rattle.promise.specs.Promise.{Meets}
+use Rattle.rules.specs.Paper.{paper}
 use Rattle.rules.specs.Connection as rule
-use Rattle.rules.specs.Table.{is-start, on}
+use Rattle.rules.specs.Table.{on}
 use Rattle.rules.specs.declared.Answer.{Answer}
 use Rattle.rules.specs.declared.Event.{Event}
 use Rattle.connection.specs.declared.Connection.{Connection}
@@ -21,13 +19,13 @@ meaning t = map connection.meaning t
 abbrev pub AllSound : List Connection → Type 0
 AllSound t = (slot : ℕ) → Sound (getD t slot empty)
 
--- an event on the record of a slot: 3, then the connection's own
-unfoldable pub in-slot : rule.Connection → Event → Outcome rule.Connection
-in-slot c e = refuse (is-start e && not (unused c)) 3 (step c e)
+-- an event on a slot of the table t may answer a and leave the table u
+abbrev pub On : List Connection → ℕ → Event → Answer → List Connection → Type 0
+On t slot e a u = Meets paper AllSound meaning t (on (meaning t) slot e) a u
 
 -- "a call of its own first empties every slot lent": the tables that it and any events after it leave
 pub data Reached : List Connection → Type 0 where
   emptied : (n : ℕ) → Reached (replicate n empty)
   after-event : {t : List Connection} → Reached t → (slot : ℕ) (e : Event) (a : Answer) (u : List Connection)
-      → Meets AllSound meaning t (on (meaning t) slot e) a u
+      → On t slot e a u
       → Reached u

@@ -2,43 +2,39 @@
 ghost use mathlib.Core.Path.{_≡_};
 ghost use lib.ListN.{length, replicate};
 ghost use Rattle.rules.specs.Numbers.{slots};
-ghost use Rattle.rules.specs.Promise.{Meets};
-ghost use Rattle.rules.specs.Table.{on as on-of};
-ghost use Rattle.connection.specs.Record.{empty as empty-of, meaning as meaning-of, Sound};
-ghost use Rattle.table.specs.Slots.{AllSound, in-slot, meaning};
+ghost use Rattle.rules.specs.Table.{in-slot as in-slot-of, on as on-of};
+ghost use Rattle.connection.specs.Record.{empty as empty-of, meaning as meaning-of, Sound, Steps};
+ghost use Rattle.table.specs.Slots.{AllSound, meaning, On};
 use connection::Connection;
-use connection::Stepped;
 use rules::Answer;
 use rules::Event;
 use rules::SLOTS;
 
-// An event on the record of a slot: no start of one in use.
-fn in_slot(c: Connection, event: Event) -> Stepped
+// An event on the record of a slot: a start only where it is not in use.
+fn in_slot(c: Connection, event: Event) -> connection::Stepped
     requires { ⌜ Sound c ⌝ }
-    ensures { λ r. ⌜ Meets Sound meaning-of c (in-slot (meaning-of c) event) (r .answer) (r .record) ⌝ }
+    ensures { λ r. ⌜ Steps c (in-slot-of (meaning-of c) event) r ⌝ }
 {
     let sender = c.sender;
     let room = sender.room;
-    if let Event::Start {
-        send_room: _,
-        send_psn: _,
-        receive_room: _,
-        receive_psn: _,
-    } = event {
-        if room != 0 {
-            return Stepped {
-                answer: Answer::Refused(3),
-                record: c,
-            };
+    match event {
+        Event::Start(opening) => {
+            if room != 0 {
+                return connection::Stepped {
+                    answer: Answer::Refused(3),
+                    record: c,
+                };
+            }
+            Connection::start(opening)
         }
+        Event::Use(u) => c.step(u),
     }
-    c.step(event)
 }
 
 // An event on a slot of a lent table.
 pub fn event(table: &mut [Connection], slot: usize, event: Event) -> Answer
     requires { ⌜ AllSound (now table) ⌝ }
-    ensures { λ r. ⌜ Meets AllSound meaning (now (table .entry)) (on-of (meaning (now (table .entry))) slot event) r (now (table .exit)) ⌝ }
+    ensures { λ r. ⌜ On (now (table .entry)) slot event r (now (table .exit)) ⌝ }
 {
     if slot >= SLOTS {
         return Answer::Refused(1);
@@ -69,9 +65,9 @@ pub struct Table {
 }
 
 // The answer to an event, and the table after it.
-pub struct Answered {
+pub struct Stepped {
     pub answer: Answer,
-    pub table: Table,
+    pub record: Table,
 }
 
 impl Table {
@@ -84,14 +80,14 @@ impl Table {
     }
 
     // An event on a slot.
-    pub fn on(self, slot: usize, event: Event) -> Answered
+    pub fn on(self, slot: usize, event: Event) -> Stepped
         requires { ⌜ AllSound (self .slots) ⌝ }
-        ensures { λ r. ⌜ Meets AllSound meaning (self .slots) (on-of (meaning (self .slots)) slot event) (r .answer) (r .table .slots) ⌝ }
+        ensures { λ r. ⌜ On (self .slots) slot event (r .answer) (r .record .slots) ⌝ }
     {
         if SLOTS <= slot {
-            return Answered {
+            return Stepped {
                 answer: Answer::Refused(1),
-                table: self,
+                record: self,
             };
         }
         let mut slots = self.slots;
@@ -100,9 +96,9 @@ impl Table {
         let answer = s.answer;
         let next = s.record;
         slots[slot] = next;
-        Answered {
+        Stepped {
             answer,
-            table: Table { slots },
+            record: Table { slots },
         }
     }
 }

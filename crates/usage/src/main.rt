@@ -4,7 +4,11 @@ use connection::Connection;
 use psn::Psn;
 use rules::Answer;
 use rules::Arrival;
-use rules::Event;
+use rules::Opening;
+use rules::Options;
+use rules::Sending;
+use rules::Start;
+use rules::Use;
 
 // The reply reaches the card that sent: how many packets it newly retires.
 fn heard(near: Connection, reply: Answer) -> u32
@@ -14,7 +18,7 @@ fn heard(near: Connection, reply: Answer) -> u32
         Answer::Acked(_, sack) => {
             let cack = sack.cack;
             let block = sack.block;
-            let out = near.step(Event::Sack { cack, block });
+            let out = near.step(Use::Sends(Sending::Sack { cack, block }));
             let answer = out.answer;
             match answer {
                 Answer::Retired {
@@ -29,18 +33,33 @@ fn heard(near: Connection, reply: Answer) -> u32
     }
 }
 
+// A start with rooms of 64, and the first packet number each way.
+fn opening(send: u32, receive: u32) -> Start {
+    Start {
+        sending: Opening {
+            room: 64,
+            first: Psn(send),
+        },
+        receiving: Opening {
+            room: 64,
+            first: Psn(receive),
+        },
+        options: Options {},
+    }
+}
+
 // One card sends, and the other receives.
 fn exchange() -> u32 {
-    let here = Connection::start(64, Psn(10), 64, Psn(900));
-    let there = Connection::start(64, Psn(900), 64, Psn(10));
+    let here = Connection::start(opening(10, 900));
+    let there = Connection::start(opening(900, 10));
     let near = here.record;
     let far = there.record;
-    let sending = near.step(Event::Send { size: 100 });
+    let sending = near.step(Use::Sends(Sending::Send { size: 100 }));
     let sent = sending.answer;
     let after = sending.record;
     match sent {
         Answer::Sent(psn) => {
-            let arriving = far.step(Event::Arrive(Arrival {
+            let arriving = far.step(Use::Receives(Arrival {
                 psn,
                 size: 100,
                 flags: 0,

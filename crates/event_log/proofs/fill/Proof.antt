@@ -1,180 +1,151 @@
--- `event_log::fill` meets its contract: after i fields their bytes stand behind the head. Assumes nothing.
+-- `event_log::fill` meets its contract: the head, and behind it the fields. Assumes nothing.
 use borrow.Author.Needs.{needs}
-use mathlib.Core.Path.{_≡_, refl, ap, ap₂, _∙_}
-use mathlib.Core.List.{List, [], _∷_}
-use Prim.Native.Nat.{ℕ, _+_, _-_, _≤_, _<_}
-use native.Mathlib.Numerals.{add-one}
+use borrow.Rule.Slice.PartMut.{putMid}
+use mathlib.Core.Path.{_≡_, ap, ap₂, _∙_}
+use mathlib.Core.List.{List, [], _∷_, _++_}
+use Prim.Native.Nat.{ℕ, _-_, _≤_}
 use native.Mathlib.Omega.{arith}
-use lib.ListN.{length, getD, take, length-set}
-use lib.Seq.{sets, length-sets}
-use Rattle.lists.specs.Lists.{sum}
-use Rattle.rules.specs.Paper.{kind-of, fields-of}
-use Rattle.rules.specs.Log.{widths, whole, spell, spell-all, encode}
+use lib.ListN.{length, take, drop, set, length-set, length-drop, length-append}
+use lib.Seq.{drop-drop}
+use Rattle.fields.specs.Fields.{size, Laid}
+use Rattle.fields.specs.Fields as fields
+use Rattle.rules.specs.Numbers.{record-head}
+use Rattle.rules.specs.Kinds.{kind-of, fields-of, widths as widths-of, kind-ok}
+use Rattle.rules.specs.Log.{whole, encode}
 use Rattle.rules.specs.declared.Event.{Event}
-use Rattle.rules.proofs.Fields.{length-spell-all}
-use Rattle.event_log.specs.Parts.{padded}
-use Rattle.event_log.proofs.OneMore.{sets-more, spell-all-more}
-use Rattle.event_log.proofs.Padded.{fields-padded}
-use Rattle.event_log.proofs.Layouts.{take-widths, whole-small, start, Field, field-at}
+use Rattle.rules.proofs.EventKinds.{known-kind}
+use Rattle.rules.proofs.Records.{length-encode}
+use Rattle.kinds.specs.Padded.{padded}
+use Rattle.kinds.proofs.Padded.{length-padded}
+use Rattle.event_log.proofs.Rests.{rest, put-rest, headed}
+use Rattle.event_log.proofs.ArrayFields.{size-padded, laid, encode-array}
 use Rattle.event_log.proofs.fill.Statement.{statement}
 use Rattle.event_log.proofs.fill.Tie as tie
 
--- all bytes of the head and of the fields
-filled : (b : List ℕ) (slot : ℕ) (e : Event) (k : ℕ) (v : List ℕ) → k ≡ kind-of e → v ≡ padded (fields-of e)
-    → sets (sets b 0 (0x4D ∷ 0x52 ∷ k ∷ slot ∷ [])) 4 (spell-all (take 4 (widths k)) v) ≡ sets b 0 (encode slot e)
-unfolding encode
-filled b slot e k v p q =
-    rw (p, q, take-widths, fields-padded e .1)
-    (sets-more (0x4D ∷ 0x52 ∷ kind-of e ∷ slot ∷ []) (spell-all (widths (kind-of e)) (fields-of e)) b 0 4 refl)
-
--- one field more
-one-more : (b v ws : List ℕ) (i : ℕ)
-    → sets (sets b 4 (spell-all (take i ws) v)) (4 + sum (take i ws)) (spell (getD ws i 0) (getD v i 0)) ≡ sets b 4 (spell-all (take (i + 1) ws) v)
-one-more b v ws i =
-    let s = spell-all (take i ws) v in
-    let behind = ap (λ (n : ℕ). 4 + n) (length-spell-all (take i ws) v) in
-    rw (add-one, spell-all-more) (sets-more s (spell (getD ws i 0) (getD v i 0)) b 4 (4 + sum (take i ws)) behind)
-
-abbrev Inv-loop : tie.InvT-loop
-Inv-loop buffer₀ slot k w v at₀ i₀ buffer at i = (i ≤ 4) × (at ≡ start k i) × (buffer ≡ sets buffer₀ 4 (spell-all (take i (widths k)) v))
-
-abbrev μ-loop : tie.MeasureT-loop
-μ-loop buffer₀ slot k w v at₀ i₀ buffer at i = 4 - i
-
-here : (c : tie.At-loop Inv-loop μ-loop) → c .loop .i < 4
-    → Field (c .before .before .before .kind .result) (c .before .before .layout .result) (c .loop .i)
-here c =
-    let layout = c .before .before .layout in
-    field-at (c .before .before .before .kind .result) (layout .result) (c .loop .i) (layout .ensures)
-
 -- the buffer with the head
-abbrev headed : tie.At-loop Inv-loop μ-loop → List ℕ
-headed c =
-    let a = c .before .before .before .before .before .args in
-    sets (a .buffer .now) 0 (0x4D ∷ 0x52 ∷ c .before .before .before .kind .result ∷ a .slot ∷ [])
+abbrev stored : List ℕ → ℕ → ℕ → List ℕ
+stored b k slot = set (set (set (set b 0 0x4D) 1 0x52) 2 k) 3 slot
 
-kept : (c : tie.At-loop Inv-loop μ-loop) → length (c .loop .buffer) ≡ length (c .before .before .before .before .before .args .buffer .now)
-kept c = ap length (c .loop .inv .2) ∙ simp (length-sets, length-set)
+-- and what is lent of it, behind the head
+abbrev lent : List ℕ → ℕ → ℕ → List ℕ
+lent b k slot = let h = stored b k slot in take (length h - record-head) (drop record-head h)
 
--- each field has room
-placed : (c : tie.At-loop Inv-loop μ-loop) → c .loop .i < 4
-    → c .loop .at + getD (c .before .before .layout .result) (c .loop .i) 0 ≤ length (c .loop .buffer)
-placed c h =
-    let entry = c .before .before .before .before .before in
-    let f = here c h in
-    omega (arith, f .next, f .within, c .loop .inv .1, kept c, ap whole (c .before .before .before .kind .ensures), entry .pre)
+-- what the code has of the event, and a buffer with room
+record Has (b : List ℕ) (e : Event) (k : ℕ) (ws v : List ℕ) : Type 0 where
+  kind-is : k ≡ kind-of e
+  widths-are : ws ≡ padded (widths-of k)
+  values-are : v ≡ padded (fields-of e)
+  room : whole (kind-of e) ≤ length b
 
-kind-requires : tie.Need-kind-requires Inv-loop μ-loop
+module _ (b : List ℕ) (slot : ℕ) (e : Event) (k : ℕ) (ws v : List ℕ) (h : Has b e k ws v) where
+  stored-is : stored b k slot ≡ 0x4D ∷ 0x52 ∷ kind-of e ∷ slot ∷ drop record-head b
+  stored-is =
+      headed 0x4D 0x52 k slot b (omega (arith, h .room)) ∙ ap (λ (n : ℕ). 0x4D ∷ 0x52 ∷ n ∷ slot ∷ drop record-head b) (h .kind-is)
+
+  lent-is : lent b k slot ≡ drop record-head b
+  lent-is = rest (stored b k slot) record-head ∙ ap (drop record-head) stored-is
+
+  fields-laid : Laid ws (length (lent b k slot)) (length v)
+  fields-laid =
+      let long : size (widths-of k) ≤ length (lent b k slot) = rw (lent-is, h .kind-is) (omega (arith, length-drop record-head b, h .room)) in
+      laid k ws _ _ (ap kind-ok (h .kind-is) ∙ known-kind e) (h .widths-are) long (ap length (h .values-are) ∙ length-padded (fields-of e))
+
+  module _ (m : List ℕ) (w : m ≡ fields.encode ws v ++ drop (size ws) (lent b k slot)) where
+    -- the fields, and the later bytes
+    fields-are : m ≡ fields.encode (widths-of (kind-of e)) (fields-of e) ++ drop (whole (kind-of e)) b
+    fields-are =
+        let n = kind-of e in
+        let ws-are : ws ≡ padded (widths-of n) = h .widths-are ∙ ap (λ (x : ℕ). padded (widths-of x)) (h .kind-is) in
+        let f : fields.encode ws v ≡ fields.encode (widths-of n) (fields-of e) = ap₂ fields.encode ws-are (h .values-are) ∙ encode-array e in
+        let later : drop (size ws) (lent b k slot) ≡ drop (whole n) b =
+        ap₂ drop (ap size ws-are ∙ size-padded n) lent-is ∙ drop-drop (size (widths-of n)) record-head b in
+        w ∙ ap₂ (λ (x y : List ℕ). x ++ y) f later
+
+    filled : putMid record-head (length (stored b k slot) - record-head) (stored b k slot) m ≡ encode slot e ++ drop (whole (kind-of e)) b
+    unfolding encode
+    filled =
+        put-rest (stored b k slot) m record-head (omega (arith, ap length stored-is))
+        ∙ ap₂ (λ (x y : List ℕ). take record-head x ++ y) stored-is fields-are
+
+    filled-length : length (putMid record-head (length (stored b k slot) - record-head) (stored b k slot) m) ≡ length b
+    filled-length =
+        let r = drop (whole (kind-of e)) b in
+        ap length filled ∙ omega (arith, h .room, length-append (encode slot e) r, length-encode slot e, length-drop (whole (kind-of e)) b)
+
+has : (c : tie.After-values) → let a = c .before .before .before .before .args in
+    Has (a .buffer .now) (a .event) (c .before .before .kind .result) (c .before .widths .result) (c .values .result)
+has c = record {
+  kind-is = c .before .before .kind .ensures;
+  widths-are = c .before .widths .ensures;
+  values-are = c .values .ensures;
+  room = c .before .before .before .before .pre;
+}
+
+kind-requires : tie.Need-kind-requires
 kind-requires c κs = search needs
 
-layout-requires : tie.Need-layout-requires Inv-loop μ-loop
-layout-requires c κs = search needs
+widths-requires : tie.Need-widths-requires
+widths-requires c κs = search needs
 
-values-requires : tie.Need-values-requires Inv-loop μ-loop
+values-requires : tie.Need-values-requires
 values-requires c κs = search needs
 
-slice-write-buffer : tie.Need-slice-write-buffer Inv-loop μ-loop
+slice-write-buffer : tie.Need-slice-write-buffer
 slice-write-buffer c = search needs
 
-slice-write-buffer-2 : tie.Need-slice-write-buffer-2 Inv-loop μ-loop
+slice-write-buffer-2 : tie.Need-slice-write-buffer-2
 slice-write-buffer-2 c = simp length-set (omega (arith, c .before .before .before .before .pre))
 
-slice-write-buffer-3 : tie.Need-slice-write-buffer-3 Inv-loop μ-loop
+slice-write-buffer-3 : tie.Need-slice-write-buffer-3
 slice-write-buffer-3 c = simp length-set (omega (arith, c .before .before .before .before .pre))
 
-slice-write-buffer-4 : tie.Need-slice-write-buffer-4 Inv-loop μ-loop
+slice-write-buffer-4 : tie.Need-slice-write-buffer-4
 slice-write-buffer-4 c = simp length-set (omega (arith, c .before .before .before .before .pre))
 
-loop-holds : tie.Need-loop-holds Inv-loop μ-loop
-unfolding spell-all sum
-loop-holds c = (omega arith, refl, refl)
+sub-write : tie.Need-sub-write
+sub-write c = simp length-set (omega (arith, c .before .before .before .before .pre))
 
-mul-put : tie.Need-mul-put Inv-loop μ-loop
-mul-put c = search needs
+part-write-start : tie.Need-part-write-start
+part-write-start c = simp length-set (omega (arith, c .before .before .before .before .pre))
 
-array-read-put : tie.Need-array-read-put Inv-loop μ-loop
-array-read-put c = search needs
+part-write-end : tie.Need-part-write-end
+part-write-end c = search needs
 
-mul-put-2 : tie.Need-mul-put-2 Inv-loop μ-loop
-mul-put-2 c = search needs
+slice-aggregate-write : tie.Need-slice-aggregate-write
+slice-aggregate-write c = search needs
 
-array-read-put-2 : tie.Need-array-read-put-2 Inv-loop μ-loop
-array-read-put-2 c = search needs
+slice-aggregate-write-2 : tie.Need-slice-aggregate-write-2
+slice-aggregate-write-2 c = search needs
 
-put-requires : tie.Need-put-requires Inv-loop μ-loop
-put-requires c κs = omega (arith, placed (c .before .before) (c .before .loop-test .taken))
+write-requires : tie.Need-write-requires
+write-requires c κs = fields-laid _ (c .before .before .before .before .before .before .before .args .slot) _ _ _ _ (has (c .before .before .before))
 
-mul-at : tie.Need-mul-at Inv-loop μ-loop
-mul-at c = search needs
+same-length : tie.Need-same-length
+same-length c =
+    let v = c .before .before .before .before .before .before in
+    filled-length _ (v .before .before .before .before .args .slot) _ _ _ _ (has v) _ (c .before .before .write .ensures)
 
-array-read-at : tie.Need-array-read-at Inv-loop μ-loop
-array-read-at c = search needs
-
-add-at : tie.Need-add-at Inv-loop μ-loop
-add-at c =
-    let top = c .before .before .before .before .before in
-    let f = here top (c .before .before .before .before .loop-test .taken) in
-    omega (arith, top .loop .inv .1, f .next, f .within, whole-small (top .before .before .before .kind .result))
-
-add-i : tie.Need-add-i Inv-loop μ-loop
-add-i c = search needs
-
-loop-less : tie.Need-loop-less Inv-loop μ-loop
-loop-less c = search needs
-
-loop-again : tie.Need-loop-again Inv-loop μ-loop
-loop-again c =
-    let top = c .before .before .before .before .before in
-    let l = top .loop in
-    let f = here top (c .before .before .before .before .loop-test .taken) in
-    let ws = widths (top .before .before .before .kind .result) in
-    let w = top .before .before .layout .result in
-    let v = top .before .values .result in
-    let x = getD v (l .i) 0 in
-    let b = headed top in (
-      omega arith,
-      omega (arith, l .inv .1, f .next),
-      c .before .before .put .ensures ∙ ap (λ (y : List ℕ). sets y (l .at) (spell (getD w (l .i) 0) x)) (l .inv .2)
-          ∙ ap₂ (λ (m n : ℕ). sets (sets b 4 (spell-all (take (l .i) ws) v)) m (spell n x)) (l .inv .1) (f .width) ∙ one-more b v ws (l .i),
-    )
-
-same-length : tie.Need-same-length Inv-loop μ-loop
-same-length c = kept (c .before)
-
-returns : tie.Need-returns Inv-loop μ-loop
+returns : tie.Need-returns
 returns c =
-    let a = c .before .before .before .before .before .before .args in
-    let l = c .before .loop in
-    let k = c .before .before .before .before .kind in
-    let v = c .before .before .values in
-    let e : l .i ≡ 4 = omega arith in
-    l .inv .2 ∙ ap (λ (n : ℕ). sets (headed (c .before)) 4 (spell-all (take n (widths (k .result))) (v .result))) e
-    ∙ filled (a .buffer .now) (a .slot) (a .event) (k .result) (v .result) (k .ensures) (v .ensures)
+    let v = c .before .before .before .before .before .before in
+    filled _ (v .before .before .before .before .args .slot) _ _ _ _ (has v) _ (c .before .before .write .ensures)
 
 pub fill-spec : {M : Type 1} → statement M
 fill-spec =
     tie.close
     (tie.spec
-    Inv-loop
-    μ-loop
     kind-requires
-    layout-requires
+    widths-requires
     values-requires
     slice-write-buffer
     slice-write-buffer-2
     slice-write-buffer-3
     slice-write-buffer-4
-    loop-holds
-    mul-put
-    array-read-put
-    mul-put-2
-    array-read-put-2
-    put-requires
-    mul-at
-    array-read-at
-    add-at
-    add-i
-    loop-less
-    loop-again
+    sub-write
+    part-write-start
+    part-write-end
+    slice-aggregate-write
+    slice-aggregate-write-2
+    write-requires
     same-length
     returns)

@@ -1,59 +1,34 @@
--- `event_log::whole` meets its contract: the four widths are all that a kind has, and their sum is small. Assumes nothing.
+-- `event_log::whole` meets its contract: the widths are all that a kind has, and their sum is small. Assumes nothing.
 use borrow.Author.Needs.{needs}
-use Prim.Native.Nat.{_+_, _≤_}
+use mathlib.Core.Path.{_≡_, ap, _∙_}
+use Prim.Native.Nat.{ℕ, _+_}
 use native.Mathlib.Omega.{arith}
-use lib.ListN.{getD}
-use Rattle.event_log.proofs.Layouts.{whole-small, whole-padded}
+use Rattle.fields.specs.Fields.{size}
+use Rattle.rules.specs.Numbers.{record-head}
+use Rattle.rules.specs.Kinds.{widths as widths-of}
+use Rattle.kinds.proofs.Layouts.{layout-laid, padded-laid}
+use Rattle.event_log.proofs.ArrayFields.{size-padded}
 use Rattle.event_log.proofs.whole.Statement.{statement}
 use Rattle.event_log.proofs.whole.Tie as tie
 
--- a record is short
-short : (c : tie.After-layout) → let w = c .layout .result in 4 + getD w 0 0 + getD w 1 0 + getD w 2 0 + getD w 3 0 ≤ 36
-short c =
-    let kind = c .before .args .kind in
-    omega (arith, whole-small kind, whole-padded kind (c .layout .result) (c .layout .ensures))
+size-is : (c : tie.After-size) → c .size .result ≡ size (widths-of (c .before .before .before .args .kind))
+size-is c = c .size .ensures ∙ ap size (c .before .before .widths .ensures) ∙ size-padded (c .before .before .before .args .kind)
 
-layout-requires : tie.Need-layout-requires
-layout-requires c κs = search needs
+widths-requires : tie.Need-widths-requires
+widths-requires c κs = search needs
 
-array-read-result : tie.Need-array-read-result
-array-read-result c = search needs
+slice-aggregate-size : tie.Need-slice-aggregate-size
+slice-aggregate-size c = search needs
+
+size-requires : tie.Need-size-requires
+size-requires c κs = rw (c .before .widths .ensures) (padded-laid (c .before .before .args .kind) (c .before .before .pre))
 
 add-result : tie.Need-add-result
-add-result c = omega (arith, short c)
-
-array-read-result-2 : tie.Need-array-read-result-2
-array-read-result-2 c = search needs
-
-add-result-2 : tie.Need-add-result-2
-add-result-2 c = omega (arith, short c)
-
-array-read-result-3 : tie.Need-array-read-result-3
-array-read-result-3 c = search needs
-
-add-result-3 : tie.Need-add-result-3
-add-result-3 c = omega (arith, short c)
-
-array-read-result-4 : tie.Need-array-read-result-4
-array-read-result-4 c = search needs
-
-add-result-4 : tie.Need-add-result-4
-add-result-4 c = omega (arith, short c)
+add-result c = omega (arith, size-is c, layout-laid (c .before .before .before .args .kind) (c .before .before .before .pre) .short)
 
 returns : tie.Need-returns
-returns c = whole-padded (c .before .args .kind) (c .layout .result) (c .layout .ensures)
+returns c = ap (λ (n : ℕ). record-head + n) (size-is c)
 
 pub whole-spec : {M : Type 1} → statement M
 whole-spec =
-    tie.close
-    (tie.spec
-    layout-requires
-    array-read-result
-    add-result
-    array-read-result-2
-    add-result-2
-    array-read-result-3
-    add-result-3
-    array-read-result-4
-    add-result-4
-    returns)
+    tie.close (tie.spec widths-requires slice-aggregate-size size-requires add-result returns)

@@ -43,8 +43,7 @@ use denote.Triple.Table.{entered, cited}
 use denote.Triple.Clauses.{ensured, lasts}
 use denote.Triple.Walked.{says, needs, Stays, stay-none, stay-slice, walkOf, goes-none, goes-slice, Walks, ends-at, walked, walk-meets}
 use denote.Exit.{yes}
-use Rattle.rules.specs.Promise as promise
-use Rattle.rules.specs.Table.{on}
+use Rattle.rules.specs.Table.{in-slot}
 use Rattle.rules.specs.declared.Event.{Event}
 use Rattle.rules.specs.declared.Answer.{Answer}
 use Rattle.rules.specs.declared.Answer.the-variants.{Refused}
@@ -54,13 +53,13 @@ use Rattle.rules.proofs.Answer as A₀
 use Rattle.rules.proofs.Answer.Laws as A′
 use Rattle.connection.specs.declared.Connection.{Connection}
 use Rattle.connection.specs.declared.Stepped.{Stepped}
-use Rattle.connection.specs.Record.{empty, Sound}
+use Rattle.connection.specs.Record.{empty, Sound, Steps}
 use Rattle.connection.specs.Record as connection
 use Rattle.connection.proofs.Connection as C₀
 use Rattle.connection.proofs.Connection.Laws as C′
 use Rattle.connection.proofs.Stepped as S₀
 use Rattle.connection.proofs.Stepped.Laws as S′
-use Rattle.table.specs.Slots.{AllSound, in-slot, meaning}
+use Rattle.table.specs.Slots.{AllSound, On}
 use Rattle.table.proofs.Slots.{past-sixteen, past-end, stored}
 use Rattle.table.proofs.Walk.{R, conn-val, conn-typed, conn-owned, bytes, in-bytes, big-lit, var, part, sets, turns-back, full, bare, frees-all}
 use Rattle.table.proofs.in_slot as step′
@@ -75,7 +74,7 @@ use Rattle.table.proofs.event.Code as code
 abbrev stayed : Stays (event′.ended .signature .params) (event′.ended .kept)
 stayed = (stay-slice (0 ∷ []) tt (plain (λ _. C₀.the-row)), (stay-none (λ _. usize) yes, (stay-none (λ _. E₀.the-row) yes, tt)))
 
--- an event and an answer as the machine has them
+-- an event and an answer as the machine has them. The walk takes an event's value as any that it may have.
 abbrev event-val : Event → Val
 event-val = EL.val E₀.the-type E′.the-laws
 
@@ -98,21 +97,21 @@ record-at = up (align C′.mir) (size A′.mir)
 
 -- what the contract says of the answer r and the list zs, and what that of `in_slot` says of r
 abbrev Said : List Connection → ℕ → Event → Answer → List Connection → Type 0
-Said ys n e r zs = promise.Meets AllSound meaning ys (on (meaning ys) n e) r zs
+Said ys n e r zs = On ys n e r zs
 
 abbrev Stepping : Connection → Event → Stepped → Type 0
-Stepping c e r = promise.Meets Sound connection.meaning c (in-slot (connection.meaning c) e) (r .answer) (r .«record»)
+Stepping c e r = Steps c (in-slot (connection.meaning c) e) r
 
 -- the contract of `in_slot`
 abbrev Step : {M : Type 1} (𝓤 : URA M) (H : Heap 𝓤) (A : Atoms 𝓤) (mem : Memory → SProp 𝓤) (run : Routine → Fun 𝓤) → Contract 𝓤
 Step 𝓤 H A mem run = tripleOf 𝓤 H A step′.signature (step′.spec 𝓤 H A mem run)
 
 module _ {M : Type 1} (𝓤 : URA M) (H : Heap 𝓤) (A : Atoms 𝓤) (W : Given 𝓤 H A) (mem : Memory → SProp 𝓤) (run : Routine → Fun 𝓤)
-    (c : Connection) (e : Event) where
+    (c : Connection) (e : Event) (ev : Val) where
   abbrev to-step : Step 𝓤 H A mem run .Ghost
-  to-step = ((tt, tt, tt, (c, (e, tt)), (conn-val c ∷ [], (event-val e ∷ [], tt))), tt)
+  to-step = ((tt, tt, tt, (c, (e, tt)), (conn-val c ∷ [], (ev ∷ [], tt))), tt)
 
-  goes-step : Sound c → Is R c (conn-val c ∷ []) → Is E₀.the-row e (event-val e ∷ []) → ent 𝓤 (emp 𝓤) (Step 𝓤 H A mem run .pre to-step)
+  goes-step : Sound c → Is R c (conn-val c ∷ []) → Is E₀.the-row e (ev ∷ []) → ent 𝓤 (emp 𝓤) (Step 𝓤 H A mem run .pre to-step)
   goes-step sound is-c is-e =
       qed W [] ∵ says ! sound $ nothing ! $
       owned ! E₀.the-row (Is E₀.the-row) (EL.makes E₀.the-type E′.the-plain 𝓤 H A) e _ is-e $ fjoin ! $
@@ -122,8 +121,8 @@ module _ {M : Type 1} (𝓤 : URA M) (H : Heap 𝓤) (A : Atoms 𝓤) (W : Given
   stepped-of r = exE 𝓤 _ (λ ws. snd∗ 𝓤 (sem 𝓤 H A (lasts step′.ended tt (c, (e, tt)) ws)) (fact 𝓤 (Stepping c e r)))
 
 module _ {M : Type 1} (𝓤 : URA M) (H : Heap 𝓤) (A : Atoms 𝓤) (W : Given 𝓤 H A) (mem : Memory → SProp 𝓤) (run : Routine → Fun 𝓤)
-    (κ : Lft) (q : Share) (b o : ℕ) (γ : GName) (ys : List Connection) (n : ℕ) (e : Event)
-    (n-fits : n < 2 ^ 64) (is-e : Is E₀.the-row e (event-val e ∷ [])) (room : Room R (length ys)) (all : AllSound ys) where
+    (κ : Lft) (q : Share) (b o : ℕ) (γ : GName) (ys : List Connection) (n : ℕ) (e : Event) (ev : Val)
+    (n-fits : n < 2 ^ 64) (is-e : Is E₀.the-row e (ev ∷ [])) (room : Room R (length ys)) (all : AllSound ys) where
   -- the borrow at the list l
   abbrev x : List Connection → RefT (List Connection)
   x l = record { ptr = (b, o); name = γ; now = l }
@@ -142,7 +141,7 @@ module _ {M : Type 1} (𝓤 : URA M) (H : Heap 𝓤) (A : Atoms 𝓤) (W : Given
   s = sliceVal (b, o) (length ys)
 
   abbrev vals : List Val × (List Val × (List Val × Unit {0}))
-  vals = (s ∷ [], (vint w64 n ∷ [], (event-val e ∷ [], tt)))
+  vals = (s ∷ [], (vint w64 n ∷ [], (ev ∷ [], tt)))
 
   abbrev bound : walkOf 𝓤 H A event′.ended stayed (event′.clauses 𝓤 H A mem run) .Ghost
   bound = (((κ, tt), (q, tt), tt, a, vals), tt)
@@ -181,9 +180,9 @@ module _ {M : Type 1} (𝓤 : URA M) (H : Heap 𝓤) (A : Atoms 𝓤) (W : Given
       owned ! A₀.the-row (Is A₀.the-row) (EL.makes A₀.the-type A′.the-plain 𝓤 H A) r _ is-r $ done !
 
   module _ (C : Calls 𝓤 H) (Λ : Loops 𝓤 H) (fm : FmC 𝓤 H (W .laws) C) (known : Triple 𝓤 (C #in-slot) (Step 𝓤 H A mem run)) where
-    walk : ent 𝓤 (onEntry 𝓤 H A event′.signature (κ, tt) (q, tt) a vals) (WpFn 𝓤 H C Λ code.function (s ∷ vint w64 n ∷ event-val e ∷ []) Post)
+    walk : ent 𝓤 (onEntry 𝓤 H A event′.signature (κ, tt) (q, tt) a vals) (WpFn 𝓤 H C Λ code.function (s ∷ vint w64 n ∷ ev ∷ []) Post)
     walk =
-        qed W ((‵ (flft κ q) ⊛ ‵ ftrue) ∷ ‵ Params ∷ []) ∵ enter ! C Λ code.function (s ∷ vint w64 n ∷ event-val e ∷ []) _ $
+        qed W ((‵ (flft κ q) ⊛ ‵ ftrue) ∷ ‵ Params ∷ []) ∵ enter ! C Λ code.function (s ∷ vint w64 n ∷ ev ∷ []) _ $
         -- the locals _0 to _9, and the arguments in _1, _2 and _3
         alloc1 ! (λ l₀. alloc1 ! (λ l₁. alloc1 ! (λ l₂. alloc1 ! (λ l₃. alloc1 ! (λ l₄.
         alloc1 ! (λ l₅. alloc1 ! (λ l₆. alloc1 ! (λ l₇. alloc1 ! (λ l₈. alloc1 ! (λ l₉. alloc0 ! $ params1 ! $
@@ -220,14 +219,14 @@ module _ {M : Type 1} (𝓤 : URA M) (H : Heap 𝓤) (A : Atoms 𝓤) (W : Given
         -- room for _0; …]: local i stands at 27 - 2 i
         sets ! (of-opd ! (load ! (from ! (hop ! (look ! 13 refl) (stop !))) (look-raw ! 0 refl))) (init ! 11 refl (conn-typed W c _ was)) $
         -- the call
-        use0 W (raw (Step 𝓤 H A mem run .pre (to-step 𝓤 H A W mem run c e))) (goes-step 𝓤 H A W mem run c e (all n) was is-e) $
-        calls-at ! fm (Step 𝓤 H A mem run) known (to-step 𝓤 H A W mem run c e)
+        use0 W (raw (Step 𝓤 H A mem run .pre (to-step 𝓤 H A W mem run c e ev))) (goes-step 𝓤 H A W mem run c e ev (all n) was is-e) $
+        calls-at ! fm (Step 𝓤 H A mem run) known (to-step 𝓤 H A W mem run c e ev)
         (and-then ! (var ! 12 refl) (and-then ! (var ! 22 refl) (no-more !))) (λ v.
         -- what it gives: a record r with the value v, of which the contract of `in_slot` holds
         use1 W (later (some (λ (r : Stepped). (‵ ftrue ⊛ ‵ (S₀.the-row .own r (v ∷ [])))
         ⊛ raw (ensured 𝓤 H A step′.ended (step′.clauses 𝓤 H A mem run) tt (c, (e, tt)) tt r)))) (id⊢ 𝓤 _) $
         await ! tt $ pick ! (λ r. split ! $ move ! (1 ∷ []) $
-        use1 W (raw (fact 𝓤 (Stepping c e r))) (stepped-of 𝓤 H A W mem run c e r) $ heard ! (Stepping c e r) (λ is. split ! $ drop ! $
+        use1 W (raw (fact 𝓤 (Stepping c e r))) (stepped-of 𝓤 H A W mem run c e ev r) $ heard ! (Stepping c e r) (λ is. split ! $ drop ! $
         peeks ! S₀.the-row (Is S₀.the-row) (shows 𝓤 H A S₀.the-row) r (v ∷ []) (λ is-r.
         land ! (from ! (stop !)) (init ! 20 refl (LL.lawful S₀.the-type S′.the-laws 𝓤 H A W .typed r _ is-r .0)) $ drop ! $
         rewrite ! 19 (λ (u : Val). ‵ (fat fullShare S′.mir l₄ 0 u)) (ap only (LL.tells S₀.the-type S′.the-laws r (v ∷ []) is-r)) refl $
@@ -245,10 +244,10 @@ module _ {M : Type 1} (𝓤 : URA M) (H : Heap 𝓤) (A : Atoms 𝓤) (W : Given
         elem-put ! R fullShare ys n (r .«record») (conn-val (r .«record») ∷ []) b o within $
         closes-slice ! tt R ys (set ys n (r .«record»)) (length-set ys n (r .«record»)) b o $
         -- [obs; the borrow; the token; true; the slice's fact; what slot and e own; _9; …]: local i stands at 24 - 2 i
-        returns ! (look ! 24 refl) $
+        returns ! (look ! 24 {τ = A′.mir} {b = l₀} {o = 0} {v = answer-val (r .answer)} refl) $
         frees-all ! 6 (full _ ∷ full _ ∷ full _ ∷ full _ ∷ full _ ∷ full _ ∷ full _ ∷ full _ ∷ full _ ∷ full _ ∷ []) refl $
         keep ! (0 ∷ 1 ∷ 2 ∷ []) $
-        by ! (exits (r .answer) (set ys n (r .«record»)) (stored ys n e all small within (r .answer) (r .«record») is) (owed .0)
+        by ! (exits (r .answer) (set ys n (r .«record»)) (stored ys n e all small within r is) (owed .0)
         (length-set ys n (r .«record»))))))))))))))))))))
 
 module _ {M : Type 1} (𝓤 : URA M) (H : Heap 𝓤) (A : Atoms 𝓤) (W : Given 𝓤 H A) (mem : Memory → SProp 𝓤) (run : Routine → Fun 𝓤) where
@@ -259,7 +258,7 @@ module _ {M : Type 1} (𝓤 : URA M) (H : Heap 𝓤) (A : Atoms 𝓤) (W : Given
       (λ κs. (slice-vals, (uint-vals w64, (EL.vals E₀.the-type E′.the-laws, tt))))
       (λ κs. (mut-slice-tells (named 0) (κs .0) R, (uint-tells w64, (EL.tells E₀.the-type E′.the-laws, tt))))
       (λ κs qs bounds a g are. needs 𝓤 (AllSound (a .0 .now)) _ (λ all.
-      walk 𝓤 H A W mem run (κs .0) (qs .0) (a .0 .ptr .0) (a .0 .ptr .1) (a .0 .name) (a .0 .now) (a .1 .0) (a .1 .1 .0)
+      walk 𝓤 H A W mem run (κs .0) (qs .0) (a .0 .ptr .0) (a .0 .ptr .1) (a .0 .name) (a .0 .now) (a .1 .0) (a .1 .1 .0) (event-val (a .1 .1 .0))
       (are .1 .0 .1) (are .1 .1 .0) (are .0 .0 .1) all C Λ fm known))
 
 event-meets : {M : Type 1} (𝓤 : URA M) (H : Heap 𝓤) (A : Atoms 𝓤) → Given 𝓤 H A → (mem : Memory → SProp 𝓤) (run : Routine → Fun 𝓤)

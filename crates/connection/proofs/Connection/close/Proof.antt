@@ -3,11 +3,13 @@ use mathlib.Core.Path.{_≡_, refl, ap, _∙_}
 use mathlib.Core.Logic.{inl}
 use borrow.Author.Needs.{needs}
 use borrow.Author.Tests.{eq-eqb, ne-eqb}
-use Rattle.rules.specs.Outcome.{Refused, Done, refuse}
-use Rattle.rules.specs.Connection.{close}
+use Rattle.promise.specs.Outcome.{Done}
+use Rattle.promise.proofs.Refusing.{Past, test, number, past, none-left}
+use Rattle.promise.proofs.Meeting.{returns-at, does}
+use Rattle.rules.specs.Connection.{close, close-refusals}
 use Rattle.rules.specs.Connection as rule
 use Rattle.rules.specs.declared.Answer.the-variants as answer
-use Rattle.rules.proofs.Meeting.{refuses, does}
+use Rattle.rules.proofs.Settled.{on-refusal}
 use Rattle.sender.specs.Record as sender
 use Rattle.connection.specs.declared.Connection.{Connection}
 use Rattle.connection.specs.Record.{meaning}
@@ -15,32 +17,32 @@ use Rattle.connection.proofs.Sides.{empty-means}
 use Rattle.connection.proofs.Connection.close.Statement.{statement}
 use Rattle.connection.proofs.Connection.close.Tie as tie
 
--- the ways out of the rule
-close-2 : (x : Connection) → x .sender .room ≡ 0 → close (meaning x) ≡ Refused 2
-unfolding close meaning sender.meaning refuse
-close-2 x e = rw (eq-eqb (x .sender .room) 0 e)
-
-close-done : (x : Connection) → (x .sender .room ≡ 0 → ⊥) → close (meaning x) ≡ Done rule.empty answer.Closed
-unfolding close meaning sender.meaning refuse
-close-done x e = rw (ne-eqb (x .sender .room) 0 e)
+past-unused : (x : Connection) → (x .sender .room ≡ 0 → ⊥) → Past (close-refusals (meaning x)) 1
+unfolding close-refusals meaning sender.meaning test Past
+past-unused x used = past (close-refusals (meaning x)) 0 tt (ne-eqb (x .sender .room) 0 used)
 
 refused-requires : tie.Need-refused-requires
 refused-requires c κs = search needs
 
 returns : tie.Need-returns
+unfolding close close-refusals meaning sender.meaning test number Past
 returns c =
     let entry = c .before .before .before in
+    let x = entry .args .self in
     let said = c .refused .ensures in
-    refuses 2 (close-2 (entry .args .self) (c .before .if1 .taken)) (said .0) (said .1) (entry .pre)
+    returns-at (close-refusals (meaning x)) (Done rule.empty answer.Closed) refl 0 tt (eq-eqb (x .sender .room) 0 (c .before .if1 .taken))
+    (on-refusal (said .0)) (said .1) (entry .pre)
 
 empty-requires : tie.Need-empty-requires
 empty-requires c κs = search needs
 
 returns-2 : tie.Need-returns-2
+unfolding close close-refusals
 returns-2 c =
-    let entry = c .before .before .before in
+    let x = c .before .before .before .args .self in
     let emptied = c .empty .ensures in
-    does rule.empty answer.Closed (close-done (entry .args .self) (c .before .if1 .left)) refl (ap meaning emptied ∙ empty-means) (inl emptied)
+    does rule.empty answer.Closed (none-left (close-refusals (meaning x)) _ (past-unused x (c .before .if1 .left))) refl
+    (ap meaning emptied ∙ empty-means) (inl emptied)
 
 pub close-spec : {M : Type 1} → statement M
 close-spec = tie.close (tie.spec refused-requires returns empty-requires returns-2)

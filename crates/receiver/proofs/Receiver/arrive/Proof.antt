@@ -1,29 +1,37 @@
--- `Receiver::arrive` meets its contract: an empty record is refused, and any other is an arrival at its head over its words. Assumes nothing.
-use mathlib.Core.Path.{ap}
+-- `Receiver::arrive` meets its contract: an empty record is refused, and any other is an arrival at its head over its words. Assumes
+-- nothing.
+use mathlib.Core.Path.{refl, ap}
 use mathlib.Core.Logic.{⊎-elim, inr}
 use borrow.Author.Needs.{needs}
-use Rattle.rules.proofs.Meeting.{refuses}
+use Rattle.promise.proofs.Refusing.{Past, test, number}
+use Rattle.promise.proofs.Meeting.{returns-at}
+use Rattle.rules.specs.Receiver.{verdict, judged}
+use Rattle.rules.specs.Receiving.{arrive, arrive-refusals}
+use Rattle.rules.proofs.Settled.{on-refusal}
+use Rattle.receiving.specs.Lent.{Lent}
+use Rattle.receiving.proofs.Entries.{is-unused}
 use Rattle.receiver.specs.declared.Receiver.{Receiver}
-use Rattle.receiver.specs.Held.{Held}
-use Rattle.receiver.specs.Record.{held-of, meaning}
-use Rattle.receiver.proofs.Entries.{is-unused}
-use Rattle.receiver.proofs.Ways.{arrive-2}
+use Rattle.receiver.specs.Record.{lent-of, meaning}
 use Rattle.receiver.proofs.Receiver.arrive.Statement.{statement}
 use Rattle.receiver.proofs.Receiver.arrive.Tie as tie
 
 -- a head over its words, as a record
-abbrev joined : Held → Receiver
+abbrev joined : Lent → Receiver
 joined x = record { room = x .head .room; expected = x .head .expected; words = x .words; count = x .head .count }
 
 refused-requires : tie.Need-refused-requires
 refused-requires c κs = search needs
 
 returns : tie.Need-returns
+unfolding arrive arrive-refusals test number Past
 returns c =
     let entry = c .before .before in
     let x = entry .args .self in
+    let r = meaning x in
+    let a = entry .args .a in
     let said = c .refused .ensures in
-    refuses 2 (arrive-2 (meaning x) (entry .args .a) (is-unused (held-of x) (c .before .if1 .taken))) (said .0) (said .1) (entry .pre)
+    returns-at (arrive-refusals r a) (judged r a (verdict r a)) refl 0 tt (is-unused (lent-of x) (c .before .if1 .taken))
+    (on-refusal (said .0)) (said .1) (entry .pre)
 
 slice-aggregate-arrive : tie.Need-slice-aggregate-arrive
 slice-aggregate-arrive c = search needs

@@ -1,8 +1,7 @@
--- `Sender::mark` meets its contract: each answer 0 is one reason not to mark, and else one bit is set. Assumes nothing.
-use mathlib.Core.Path.{sym, _∙_}
+-- `Sender::mark` meets its contract: past the outstanding nothing is marked, and among them one bit is set where it may be. Assumes nothing.
 use native.Mathlib.Omega.{arith}
 use Rattle.sender.proofs.Entries.{few}
-use Rattle.sender.proofs.Marked.{mark-past, mark-retired, mark-again, mark-new}
+use Rattle.sender.proofs.Marked.{mark-past, mark-in}
 use borrow.Author.Needs.{needs}
 use Rattle.sender.proofs.Sender.mark.Statement.{statement}
 use Rattle.sender.proofs.Sender.mark.Tie as tie
@@ -12,68 +11,35 @@ index-requires c κs = search needs
 
 returns : tie.Need-returns
 returns c =
-    let entry = c .before .before .before .before .before in
-    let index = c .before .index in
-    mark-past (entry .args .self) (entry .pre) (entry .args .psn .0) (index .result) (index .ensures) (c .if1 .taken)
+    let a = c .before .before .before .before .before .args in
+    mark-past (a .self) (c .before .before .before .before .before .pre) (a .psn .0) (c .before .index .result) (c .before .index .ensures) (c .if1 .taken)
 
-add-p : tie.Need-add-p
-add-p c = search needs
+slice-aggregate-mark : tie.Need-slice-aggregate-mark
+slice-aggregate-mark c = search needs
 
-add-p-2 : tie.Need-add-p-2
-add-p-2 c =
-    let entry = c .before .before .before .before .before .before in
-    omega (arith, few (entry .args .self) (entry .pre))
+slice-aggregate-mark-2 : tie.Need-slice-aggregate-mark-2
+slice-aggregate-mark-2 c = search needs
 
-slice-aggregate-test : tie.Need-slice-aggregate-test
-slice-aggregate-test c = search needs
+add-mark : tie.Need-add-mark
+add-mark c = search needs
 
-test-requires : tie.Need-test-requires
-test-requires c κs = search needs
+add-mark-2 : tie.Need-add-mark-2
+add-mark-2 c = omega (arith, few (c .before .before .before .before .before .before .before .before .args .self) (c .before .before .before .before .before .before .before .before .pre))
 
-returns-2 : tie.Need-returns-2
-returns-2 c =
-    let first = c .before .before .before .before in
-    let index = first .before .index in
-    let entry = first .before .before .before .before .before in
-    let retired = sym (c .before .test .ensures) ∙ c .if2 .taken in
-    mark-retired (entry .args .self) (entry .pre) (entry .args .psn .0) (index .result) (index .ensures) (first .if1 .left) retired
-
-slice-aggregate-test-2 : tie.Need-slice-aggregate-test-2
-slice-aggregate-test-2 c = search needs
-
-test-requires-2 : tie.Need-test-requires-2
-test-requires-2 c κs = search needs
-
-returns-3 : tie.Need-returns-3
-returns-3 c =
-    let first = c .before .before .before .before .before .before .before in
-    let index = first .before .index in
-    let entry = first .before .before .before .before .before in
-    let marked = sym (c .before .test2 .ensures) ∙ c .if3 .taken in
-    mark-again (entry .args .self) (entry .pre) (entry .args .psn .0) (index .result) (index .ensures) (first .if1 .left) marked
-
-slice-aggregate-set : tie.Need-slice-aggregate-set
-slice-aggregate-set c = search needs
-
-set-requires : tie.Need-set-requires
-set-requires c κs = search needs
+mark-requires : tie.Need-mark-requires
+mark-requires c κs = search needs
 
 with-marked-requires : tie.Need-with-marked-requires
 with-marked-requires c κs = search needs
 
-returns-4 : tie.Need-returns-4
-returns-4 c =
-    let third = c .before .before .before .before in
-    let second = third .before .before .before in
-    let first = second .before .before .before .before in
-    let index = first .before .index in
-    let entry = first .before .before .before .before .before in
-    let open-there = sym (second .before .test .ensures) ∙ second .if2 .left in
-    let unmarked = sym (third .before .test2 .ensures) ∙ third .if3 .left in
-    let set = c .before .before .set in
+returns-2 : tie.Need-returns-2
+returns-2 c =
+    let a = c .before .before .before .before .before .before .before .before .before .before .before .args in
+    let i = c .before .before .before .before .before .before .before .index in
+    let rows = c .before .before .mark in
     let out = c .with-marked in
-    mark-new (entry .args .self) (entry .pre) (entry .args .psn .0) (index .result) (index .ensures) (first .if1 .left)
-    open-there unmarked (set .last .0) (set .ensures) (out .result) (out .ensures)
+    mark-in (a .self) (c .before .before .before .before .before .before .before .before .before .before .before .pre) (a .psn .0) (i .result) (i .ensures) (c .before .before .before .before .before .before .if1 .left)
+    (rows .last .1 .0) (rows .result) (rows .ensures) (out .result) (out .ensures)
 
 pub mark-spec : {M : Type 1} → statement M
 mark-spec =
@@ -81,15 +47,10 @@ mark-spec =
     (tie.spec
     index-requires
     returns
-    add-p
-    add-p-2
-    slice-aggregate-test
-    test-requires
-    returns-2
-    slice-aggregate-test-2
-    test-requires-2
-    returns-3
-    slice-aggregate-set
-    set-requires
+    slice-aggregate-mark
+    slice-aggregate-mark-2
+    add-mark
+    add-mark-2
+    mark-requires
     with-marked-requires
-    returns-4)
+    returns-2)

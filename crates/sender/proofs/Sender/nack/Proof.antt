@@ -1,24 +1,49 @@
--- `Sender::nack` meets its contract: one law for each way out of the rule. Assumes nothing.
+-- `Sender::nack` meets its contract: the rule's tests one after the other, and then a mark, or none for a reason above 4. Assumes nothing.
 use mathlib.Core.Path.{refl, sym, ap, _∙_}
 use mathlib.Core.Bool.{not}
 use mathlib.Core.Logic.{inr}
+use Rattle.promise.specs.Outcome.{Refusals}
+use Rattle.promise.proofs.Refusing.{Past, test, number, past, none-left}
+use Rattle.promise.proofs.Meeting.{returns-at, does}
+use Rattle.rules.specs.Sending.{nack-refusals, nack}
 use Rattle.rules.specs.declared.Answer.the-variants as answer
-use Rattle.rules.proofs.Meeting.{refuses, does}
-use Rattle.sender.proofs.Entries.{in-use}
-use Rattle.sender.proofs.Ways.{nack-2, nack-5, nack-15, nack-8, nack-none, nack-done}
-use Rattle.sender.proofs.Marked.{marks-meet}
+use Rattle.rules.proofs.Settled.{on-refusal}
+use Rattle.sender.specs.Record.{meaning}
+use Rattle.sender.proofs.Entries.{in-use, is-unused, is-used}
+use Rattle.sender.proofs.Marked.{nacked-none, nacked-mark, marks-meet}
 use borrow.Author.Needs.{needs}
 use Rattle.sender.proofs.Sender.nack.Statement.{statement}
 use Rattle.sender.proofs.Sender.nack.Tie as tie
+
+-- the rule's tests, and how far they were passed by
+abbrev tests : tie.Start → Refusals
+tests s = nack-refusals (meaning (s .args .self)) (s .args .psn) (s .args .reason)
+
+past-unused : (c : tie.Else1) → Past (tests (c .before)) 1
+unfolding nack-refusals Past test
+past-unused c = past (tests (c .before)) 0 tt (is-used (c .before .args .self) (c .if1 .left))
+
+past-psn : (c : tie.Else2) → Past (tests (c .before .before .before)) 2
+unfolding nack-refusals test
+past-psn c = past _ 1 (past-unused (c .before .before)) (sym (ap not (c .before .psn-ok .ensures)) ∙ c .if2 .left)
+
+past-reason : (c : tie.Else3) → Past (tests (c .before .before .before .before .before)) 3
+unfolding nack-refusals test
+past-reason c = past _ 2 (past-psn (c .before .before)) (sym (ap not (c .before .reason-ok .ensures)) ∙ c .if3 .left)
+
+past-unsent : (c : tie.Else4) → Past (tests (c .before .before .before .before .before .before .before)) 4
+unfolding nack-refusals test
+past-unsent c = past _ 3 (past-reason (c .before .before)) (sym (c .before .unsent .ensures) ∙ c .if4 .left)
 
 refused-requires : tie.Need-refused-requires
 refused-requires c κs = search needs
 
 returns : tie.Need-returns
+unfolding nack nack-refusals Past test number
 returns c =
-    let entry = c .before .before in
     let said = c .refused .ensures in
-    refuses 2 (nack-2 (entry .args .self) (entry .args .psn) (entry .args .reason) (c .before .if1 .taken)) (said .0) (said .1) (entry .pre)
+    let idle = is-unused (c .before .before .args .self) (c .before .if1 .taken) in
+    returns-at (tests (c .before .before)) _ refl 0 tt idle (on-refusal (said .0)) (said .1) (c .before .before .pre)
 
 psn-ok-requires : tie.Need-psn-ok-requires
 psn-ok-requires c κs = search needs
@@ -27,12 +52,11 @@ refused-requires-2 : tie.Need-refused-requires-2
 refused-requires-2 c κs = search needs
 
 returns-2 : tie.Need-returns-2
+unfolding nack nack-refusals test number
 returns-2 c =
-    let first = c .before .before .before in
-    let entry = first .before in
     let high = sym (ap not (c .before .before .psn-ok .ensures)) ∙ c .before .if2 .taken in
     let said = c .refused2 .ensures in
-    refuses 5 (nack-5 (entry .args .self) (first .if1 .left) (entry .args .psn) (entry .args .reason) high) (said .0) (said .1) (entry .pre)
+    returns-at _ _ refl 1 (past-unused (c .before .before .before)) high (on-refusal (said .0)) (said .1) (c .before .before .before .before .pre)
 
 reason-ok-requires : tie.Need-reason-ok-requires
 reason-ok-requires c κs = search needs
@@ -41,15 +65,11 @@ refused-requires-3 : tie.Need-refused-requires-3
 refused-requires-3 c κs = search needs
 
 returns-3 : tie.Need-returns-3
+unfolding nack nack-refusals test number
 returns-3 c =
-    let second = c .before .before .before in
-    let first = second .before .before in
-    let entry = first .before in
-    let a = entry .args in
-    let low = sym (ap not (second .before .psn-ok .ensures)) ∙ second .if2 .left in
     let unknown = sym (ap not (c .before .before .reason-ok .ensures)) ∙ c .before .if3 .taken in
     let said = c .refused3 .ensures in
-    refuses 15 (nack-15 (a .self) (first .if1 .left) (a .psn) low (a .reason) unknown) (said .0) (said .1) (entry .pre)
+    returns-at _ _ refl 2 (past-psn (c .before .before .before)) unknown (on-refusal (said .0)) (said .1) (c .before .before .before .before .before .before .pre)
 
 unsent-requires : tie.Need-unsent-requires
 unsent-requires c κs = search needs
@@ -58,48 +78,27 @@ refused-requires-4 : tie.Need-refused-requires-4
 refused-requires-4 c κs = search needs
 
 returns-4 : tie.Need-returns-4
+unfolding nack nack-refusals test number
 returns-4 c =
-    let third = c .before .before .before in
-    let second = third .before .before in
-    let first = second .before .before in
-    let entry = first .before in
-    let a = entry .args in
-    let low = sym (ap not (second .before .psn-ok .ensures)) ∙ second .if2 .left in
-    let known = sym (ap not (third .before .reason-ok .ensures)) ∙ third .if3 .left in
     let is-unsent = sym (c .before .before .unsent .ensures) ∙ c .before .if4 .taken in
     let said = c .refused4 .ensures in
-    refuses 8 (nack-8 (a .self) (first .if1 .left) (a .psn) low (a .reason) known is-unsent) (said .0) (said .1) (entry .pre)
+    returns-at _ _ refl 3 (past-reason (c .before .before .before)) is-unsent (on-refusal (said .0)) (said .1) (c .before .before .before .before .before .before .before .before .pre)
 
 returns-5 : tie.Need-returns-5
+unfolding nack nack-refusals
 returns-5 c =
-    let third = c .before .before .before in
-    let second = third .before .before in
-    let first = second .before .before in
-    let entry = first .before in
-    let a = entry .args in
-    let used = first .if1 .left in
-    let low = sym (ap not (second .before .psn-ok .ensures)) ∙ second .if2 .left in
-    let known = sym (ap not (third .before .reason-ok .ensures)) ∙ third .if3 .left in
-    let is-sent = sym (c .before .before .unsent .ensures) ∙ c .before .if4 .left in
-    does _ _ (nack-none (a .self) used (a .psn) low (a .reason) known is-sent (c .if5 .taken)) refl refl (inr (in-use (a .self) (entry .pre) used))
+    let a = c .before .before .before .before .before .before .before .before .args in
+    let on = none-left _ _ (past-unsent (c .before)) ∙ nacked-none (meaning (a .self)) (a .psn .0) (a .reason) (c .if5 .taken) in
+    does _ _ on refl refl (c .before .before .before .before .before .before .before .before .pre)
 
 mark-requires : tie.Need-mark-requires
-mark-requires c κs =
-    let first = c .before .before .before .before .before .before .before in
-    let entry = first .before in
-    in-use (entry .args .self) (entry .pre) (first .if1 .left)
+mark-requires c κs = in-use (c .before .before .before .before .before .before .before .before .args .self) (c .before .before .before .before .before .before .before .before .pre) (c .before .before .before .before .before .before .before .if1 .left)
 
 returns-6 : tie.Need-returns-6
+unfolding nack nack-refusals
 returns-6 c =
-    let fourth = c .before .before .before in
-    let third = fourth .before .before in
-    let second = third .before .before in
-    let first = second .before .before in
-    let a = first .before .args in
-    let low = sym (ap not (second .before .psn-ok .ensures)) ∙ second .if2 .left in
-    let known = sym (ap not (third .before .reason-ok .ensures)) ∙ third .if3 .left in
-    let is-sent = sym (fourth .before .unsent .ensures) ∙ fourth .if4 .left in
-    let on = nack-done (a .self) (first .if1 .left) (a .psn) low (a .reason) known is-sent (c .before .before .if5 .left) in
+    let a = c .before .before .before .before .before .before .before .before .before .before .args in
+    let on = none-left _ _ (past-unsent (c .before .before .before)) ∙ nacked-mark (meaning (a .self)) (a .psn .0) (a .reason) (c .before .before .if5 .left) in
     marks-meet answer.Marked (a .self) (a .psn .0) _ (c .before .mark .result) on (c .before .mark .ensures)
 
 pub nack-spec : {M : Type 1} → statement M

@@ -1,22 +1,48 @@
--- `Sender::sack` meets its contract: one law for each way out of the rule; all is judged before anything is retired. Assumes nothing.
-use mathlib.Core.Path.{sym, ap, _∙_}
+-- `Sender::sack` meets its contract: the rule's tests one after the other, all before anything is retired. Assumes nothing.
+use mathlib.Core.Path.{refl, sym, ap, _∙_}
 use mathlib.Core.Bool.{not}
 use mathlib.Core.Logic.{inr}
-use Rattle.rules.proofs.Meeting.{refuses, does}
-use Rattle.sender.proofs.Entries.{in-use}
-use Rattle.sender.proofs.Ways.{sack-2, sack-cack, sack-base, sack-8, sack-done}
+use Rattle.promise.specs.Outcome.{Refusals}
+use Rattle.promise.proofs.Refusing.{Past, test, number, past, none-left}
+use Rattle.promise.proofs.Meeting.{returns-at, does}
+use Rattle.rules.specs.Retire.{acknowledged}
+use Rattle.rules.specs.Sending.{sack-refusals, sack}
+use Rattle.rules.proofs.Settled.{on-refusal}
+use Rattle.sender.specs.Record.{meaning}
+use Rattle.sender.proofs.Entries.{in-use, is-unused, is-used}
 use borrow.Author.Needs.{needs}
 use Rattle.sender.proofs.Sender.sack.Statement.{statement}
 use Rattle.sender.proofs.Sender.sack.Tie as tie
+
+-- the rule's tests, and how far they were passed by
+abbrev tests : tie.Start → Refusals
+tests s = sack-refusals (meaning (s .args .self)) (s .args .cack) (s .args .block)
+
+past-unused : (c : tie.Else1) → Past (tests (c .before)) 1
+unfolding sack-refusals Past test
+past-unused c = past (tests (c .before)) 0 tt (is-used (c .before .args .self) (c .if1 .left))
+
+past-cack : (c : tie.Else2) → Past (tests (c .before .before .before)) 2
+unfolding sack-refusals test
+past-cack c = past _ 1 (past-unused (c .before .before)) (sym (ap not (c .before .psn-ok .ensures)) ∙ c .if2 .left)
+
+past-base : (c : tie.Else3) → Past (tests (c .before .before .before .before .before .before)) 3
+unfolding sack-refusals test
+past-base c = past _ 2 (past-cack (c .before .before .before)) (sym (ap not (c .before .psn-ok2 .ensures)) ∙ c .if3 .left)
+
+past-unsent : (c : tie.Else4) → Past (tests (c .before .before .before .before .before .before .before .before)) 4
+unfolding sack-refusals test
+past-unsent c = past _ 3 (past-base (c .before .before)) (sym (c .before .names-unsent .ensures) ∙ c .if4 .left)
 
 refused-requires : tie.Need-refused-requires
 refused-requires c κs = search needs
 
 returns : tie.Need-returns
+unfolding sack sack-refusals Past test number
 returns c =
-    let entry = c .before .before in
     let said = c .refused .ensures in
-    refuses 2 (sack-2 (entry .args .self) (entry .args .cack) (entry .args .block) (c .before .if1 .taken)) (said .0) (said .1) (entry .pre)
+    let idle = is-unused (c .before .before .args .self) (c .before .if1 .taken) in
+    returns-at (tests (c .before .before)) _ refl 0 tt idle (on-refusal (said .0)) (said .1) (c .before .before .pre)
 
 psn-ok-requires : tie.Need-psn-ok-requires
 psn-ok-requires c κs = search needs
@@ -25,13 +51,11 @@ refused-requires-2 : tie.Need-refused-requires-2
 refused-requires-2 c κs = search needs
 
 returns-2 : tie.Need-returns-2
+unfolding sack sack-refusals test number
 returns-2 c =
-    let first = c .before .before .before in
-    let entry = first .before in
-    let a = entry .args in
     let high = sym (ap not (c .before .before .psn-ok .ensures)) ∙ c .before .if2 .taken in
     let said = c .refused2 .ensures in
-    refuses 5 (sack-cack (a .self) (first .if1 .left) (a .cack) (a .block) high) (said .0) (said .1) (entry .pre)
+    returns-at _ _ refl 1 (past-unused (c .before .before .before)) high (on-refusal (said .0)) (said .1) (c .before .before .before .before .pre)
 
 psn-ok-requires-2 : tie.Need-psn-ok-requires-2
 psn-ok-requires-2 c κs = search needs
@@ -40,55 +64,33 @@ refused-requires-3 : tie.Need-refused-requires-3
 refused-requires-3 c κs = search needs
 
 returns-3 : tie.Need-returns-3
+unfolding sack sack-refusals test number
 returns-3 c =
-    let second = c .before .before .before .before in
-    let first = second .before .before in
-    let entry = first .before in
-    let a = entry .args in
-    let low = sym (ap not (second .before .psn-ok .ensures)) ∙ second .if2 .left in
     let high = sym (ap not (c .before .before .psn-ok2 .ensures)) ∙ c .before .if3 .taken in
     let said = c .refused3 .ensures in
-    refuses 5 (sack-base (a .self) (first .if1 .left) (a .cack) (a .block) low high) (said .0) (said .1) (entry .pre)
+    returns-at _ _ refl 2 (past-cack (c .before .before .before .before)) high (on-refusal (said .0)) (said .1) (c .before .before .before .before .before .before .before .pre)
 
 names-unsent-requires : tie.Need-names-unsent-requires
-names-unsent-requires c κs =
-    let first = c .before .before .before .before .before in
-    let entry = first .before in
-    in-use (entry .args .self) (entry .pre) (first .if1 .left)
+names-unsent-requires c κs = in-use (c .before .before .before .before .before .before .args .self) (c .before .before .before .before .before .before .pre) (c .before .before .before .before .before .if1 .left)
 
 refused-requires-4 : tie.Need-refused-requires-4
 refused-requires-4 c κs = search needs
 
 returns-4 : tie.Need-returns-4
+unfolding sack sack-refusals test number
 returns-4 c =
-    let third = c .before .before .before in
-    let second = third .before .before .before in
-    let first = second .before .before in
-    let entry = first .before in
-    let a = entry .args in
-    let low = sym (ap not (second .before .psn-ok .ensures)) ∙ second .if2 .left in
-    let base-low = sym (ap not (third .before .psn-ok2 .ensures)) ∙ third .if3 .left in
     let is-unsent = sym (c .before .before .names-unsent .ensures) ∙ c .before .if4 .taken in
     let said = c .refused4 .ensures in
-    refuses 8 (sack-8 (a .self) (first .if1 .left) (a .cack) (a .block) low base-low is-unsent) (said .0) (said .1) (entry .pre)
+    returns-at _ _ refl 3 (past-base (c .before .before .before)) is-unsent (on-refusal (said .0)) (said .1) (c .before .before .before .before .before .before .before .before .before .pre)
 
 acknowledge-requires : tie.Need-acknowledge-requires
-acknowledge-requires c κs =
-    let first = c .before .before .before .before .before .before .before in
-    let entry = first .before in
-    (in-use (entry .args .self) (entry .pre) (first .if1 .left), sym (c .before .names-unsent .ensures) ∙ c .if4 .left)
+acknowledge-requires c κs = (in-use (c .before .before .before .before .before .before .before .before .args .self) (c .before .before .before .before .before .before .before .before .pre) (c .before .before .before .before .before .before .before .if1 .left), sym (c .before .names-unsent .ensures) ∙ c .if4 .left)
 
 returns-5 : tie.Need-returns-5
+unfolding sack sack-refusals acknowledged
 returns-5 c =
-    let third = c .before .before .before in
-    let second = third .before .before .before in
-    let first = second .before .before in
-    let a = first .before .args in
-    let low = sym (ap not (second .before .psn-ok .ensures)) ∙ second .if2 .left in
-    let base-low = sym (ap not (third .before .psn-ok2 .ensures)) ∙ third .if3 .left in
-    let is-sent = sym (c .before .before .names-unsent .ensures) ∙ c .before .if4 .left in
     let done = c .acknowledge .ensures in
-    does _ _ (sack-done (a .self) (first .if1 .left) (a .cack) (a .block) low base-low is-sent) (done .answer-is) (done .record-is) (inr (done .started))
+    does _ _ (none-left _ _ (past-unsent (c .before))) (done .answer-is) (done .record-is) (inr (done .started))
 
 pub sack-spec : {M : Type 1} → statement M
 sack-spec =

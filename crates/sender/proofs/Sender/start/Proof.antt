@@ -1,15 +1,36 @@
--- `Sender::start` meets its contract: one law for each way out of the rule. Assumes nothing.
-use mathlib.Core.Path.{refl, sym, ap, _∙_}
-use mathlib.Core.Bool.{not}
+-- `Sender::start` meets its contract: the rule's tests one after the other, and then the record that it begins. Assumes nothing.
+use mathlib.Core.Path.{_≡_, refl, sym, ap, _∙_}
+use mathlib.Core.Bool.{true, not}
 use mathlib.Core.Logic.{inl, inr}
 use borrow.Author.Tests.{not-false}
+use Rattle.promise.specs.Outcome.{Refusals}
+use Rattle.promise.proofs.Refusing.{Past, test, number, past, none-left}
+use Rattle.promise.proofs.Meeting.{returns-at, does}
 use Rattle.rules.specs.Numbers.{room-ok}
-use Rattle.rules.proofs.Meeting.{refuses, does}
-use Rattle.sender.proofs.Ways.{start-4, start-5, start-done}
+use Rattle.rules.specs.Sender.{start-refusals, start}
+use Rattle.rules.proofs.Settled.{on-refusal}
 use Rattle.sender.proofs.Starting.{begun-means, begun-started}
 use borrow.Author.Needs.{needs}
 use Rattle.sender.proofs.Sender.start.Statement.{statement}
 use Rattle.sender.proofs.Sender.start.Tie as tie
+
+-- the rule's tests, and how far they were passed by
+abbrev tests : tie.Start → Refusals
+tests s = start-refusals (s .args .opening)
+
+good-room : (c : tie.Else1) → room-ok (c .before .before .before .before .args .opening .room) ≡ true
+good-room c = sym (c .before .room-ok .ensures) ∙ not-false (c .before .room-ok .result) (c .if1 .left)
+
+past-room : (c : tie.Else1) → Past (tests (c .before .before .before .before)) 1
+unfolding start-refusals Past test
+past-room c = past (tests (c .before .before .before .before)) 0 tt (ap not (good-room c))
+
+past-psn : (c : tie.Else2) → Past (tests (c .before .before .before .before .before .before)) 2
+unfolding start-refusals test
+past-psn c = past _ 1 (past-room (c .before .before)) (sym (ap not (c .before .psn-ok .ensures)) ∙ c .if2 .left)
+
+cast-room : tie.Need-cast-room
+cast-room c = search needs
 
 room-ok-requires : tie.Need-room-ok-requires
 room-ok-requires c κs = search needs
@@ -21,11 +42,11 @@ refused-requires : tie.Need-refused-requires
 refused-requires c κs = search needs
 
 returns : tie.Need-returns
+unfolding start start-refusals Past test number
 returns c =
-    let entry = c .before .before .before .before in
     let bad = sym (ap not (c .before .before .before .room-ok .ensures)) ∙ c .before .before .if1 .taken in
     let said = c .refused .ensures in
-    refuses 4 (start-4 (entry .args .room) (entry .args .first) bad) (said .0) (said .1 ∙ c .before .empty .ensures) (inl refl)
+    returns-at (tests (c .before .before .before .before .before .before)) _ refl 0 tt bad (on-refusal (said .0)) (said .1 ∙ c .before .empty .ensures) (inl refl)
 
 psn-ok-requires : tie.Need-psn-ok-requires
 psn-ok-requires c κs = search needs
@@ -37,13 +58,11 @@ refused-requires-2 : tie.Need-refused-requires-2
 refused-requires-2 c κs = search needs
 
 returns-2 : tie.Need-returns-2
+unfolding start start-refusals test number
 returns-2 c =
-    let rooms = c .before .before .before .before in
-    let entry = rooms .before .before in
-    let good = sym (ap not (rooms .before .room-ok .ensures)) ∙ rooms .if1 .left in
     let high = sym (ap not (c .before .before .before .psn-ok .ensures)) ∙ c .before .before .if2 .taken in
     let said = c .refused2 .ensures in
-    refuses 5 (start-5 (entry .args .room) (entry .args .first) good high) (said .0) (said .1 ∙ c .before .empty2 .ensures) (inl refl)
+    returns-at _ _ refl 1 (past-room (c .before .before .before .before)) high (on-refusal (said .0)) (said .1 ∙ c .before .empty2 .ensures) (inl refl)
 
 low-requires : tie.Need-low-requires
 low-requires c κs = search needs
@@ -58,25 +77,22 @@ after-requires : tie.Need-after-requires
 after-requires c κs = search needs
 
 returns-3 : tie.Need-returns-3
+unfolding start start-refusals
 returns-3 c =
-    let psns = c .before .before .before in
-    let rooms = psns .before .before in
-    let entry = rooms .before .before in
-    let room = entry .args .room in
-    let first = entry .args .first in
-    let good = sym (ap not (rooms .before .room-ok .ensures)) ∙ rooms .if1 .left in
-    let low = sym (ap not (psns .before .psn-ok .ensures)) ∙ psns .if2 .left in
-    let ok = not-false (room-ok room) good in
+    let room = c .before .before .before .before .before .before .before .before .before .args .opening .room in
+    let first = c .before .before .before .before .before .before .before .before .before .args .opening .first in
+    let ok = good-room (c .before .before .before .before .before) in
     let place = c .after in
     let word = c .before .low in
     let means = begun-means room (first .0) (place .result) (word .result) ok (place .ensures) (word .ensures) in
     let begins = begun-started room (first .0) (place .result) (word .result) ok (place .ensures) (word .ensures) in
-    does _ _ (start-done room first good low) refl means (inr begins)
+    does _ _ (none-left _ _ (past-psn (c .before .before .before))) refl means (inr begins)
 
 pub start-spec : {M : Type 1} → statement M
 start-spec =
     tie.close
     (tie.spec
+    cast-room
     room-ok-requires
     empty-requires
     refused-requires

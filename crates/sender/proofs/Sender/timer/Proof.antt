@@ -1,23 +1,44 @@
--- `Sender::timer` meets its contract: one law for each way out of the rule. Assumes nothing.
-use mathlib.Core.Path.{sym, ap, _∙_}
+-- `Sender::timer` meets its contract: the rule's tests one after the other, and then a mark. Assumes nothing.
+use mathlib.Core.Path.{refl, sym, ap, _∙_}
 use mathlib.Core.Bool.{not}
+use Rattle.promise.specs.Outcome.{Refusals}
+use Rattle.promise.proofs.Refusing.{Past, test, number, past, none-left}
+use Rattle.promise.proofs.Meeting.{returns-at}
+use Rattle.rules.specs.Sending.{timer-refusals, timer}
 use Rattle.rules.specs.declared.Answer.the-variants as answer
-use Rattle.rules.proofs.Meeting.{refuses}
-use Rattle.sender.proofs.Entries.{in-use}
-use Rattle.sender.proofs.Ways.{timer-2, timer-5, timer-8, timer-done}
+use Rattle.rules.proofs.Settled.{on-refusal}
+use Rattle.sender.specs.Record.{meaning}
+use Rattle.sender.proofs.Entries.{in-use, is-unused, is-used}
 use Rattle.sender.proofs.Marked.{marks-meet}
 use borrow.Author.Needs.{needs}
 use Rattle.sender.proofs.Sender.timer.Statement.{statement}
 use Rattle.sender.proofs.Sender.timer.Tie as tie
 
+-- the rule's tests, and how far they were passed by
+abbrev tests : tie.Start → Refusals
+tests s = timer-refusals (meaning (s .args .self)) (s .args .psn)
+
+past-unused : (c : tie.Else1) → Past (tests (c .before)) 1
+unfolding timer-refusals Past test
+past-unused c = past (tests (c .before)) 0 tt (is-used (c .before .args .self) (c .if1 .left))
+
+past-psn : (c : tie.Else2) → Past (tests (c .before .before .before)) 2
+unfolding timer-refusals test
+past-psn c = past _ 1 (past-unused (c .before .before)) (sym (ap not (c .before .psn-ok .ensures)) ∙ c .if2 .left)
+
+past-unsent : (c : tie.Else3) → Past (tests (c .before .before .before .before .before)) 3
+unfolding timer-refusals test
+past-unsent c = past _ 2 (past-psn (c .before .before)) (sym (c .before .unsent .ensures) ∙ c .if3 .left)
+
 refused-requires : tie.Need-refused-requires
 refused-requires c κs = search needs
 
 returns : tie.Need-returns
+unfolding timer timer-refusals Past test number
 returns c =
-    let entry = c .before .before in
     let said = c .refused .ensures in
-    refuses 2 (timer-2 (entry .args .self) (entry .args .psn) (c .before .if1 .taken)) (said .0) (said .1) (entry .pre)
+    let idle = is-unused (c .before .before .args .self) (c .before .if1 .taken) in
+    returns-at (tests (c .before .before)) _ refl 0 tt idle (on-refusal (said .0)) (said .1) (c .before .before .pre)
 
 psn-ok-requires : tie.Need-psn-ok-requires
 psn-ok-requires c κs = search needs
@@ -26,12 +47,11 @@ refused-requires-2 : tie.Need-refused-requires-2
 refused-requires-2 c κs = search needs
 
 returns-2 : tie.Need-returns-2
+unfolding timer timer-refusals test number
 returns-2 c =
-    let first = c .before .before .before in
-    let entry = first .before in
     let high = sym (ap not (c .before .before .psn-ok .ensures)) ∙ c .before .if2 .taken in
     let said = c .refused2 .ensures in
-    refuses 5 (timer-5 (entry .args .self) (first .if1 .left) (entry .args .psn) high) (said .0) (said .1) (entry .pre)
+    returns-at _ _ refl 1 (past-unused (c .before .before .before)) high (on-refusal (said .0)) (said .1) (c .before .before .before .before .pre)
 
 unsent-requires : tie.Need-unsent-requires
 unsent-requires c κs = search needs
@@ -40,30 +60,20 @@ refused-requires-3 : tie.Need-refused-requires-3
 refused-requires-3 c κs = search needs
 
 returns-3 : tie.Need-returns-3
+unfolding timer timer-refusals test number
 returns-3 c =
-    let second = c .before .before .before in
-    let first = second .before .before in
-    let entry = first .before in
-    let low = sym (ap not (second .before .psn-ok .ensures)) ∙ second .if2 .left in
     let is-unsent = sym (c .before .before .unsent .ensures) ∙ c .before .if3 .taken in
     let said = c .refused3 .ensures in
-    refuses 8 (timer-8 (entry .args .self) (first .if1 .left) (entry .args .psn) low is-unsent) (said .0) (said .1) (entry .pre)
+    returns-at _ _ refl 2 (past-psn (c .before .before .before)) is-unsent (on-refusal (said .0)) (said .1) (c .before .before .before .before .before .before .pre)
 
 mark-requires : tie.Need-mark-requires
-mark-requires c κs =
-    let first = c .before .before .before .before in
-    let entry = first .before in
-    in-use (entry .args .self) (entry .pre) (first .if1 .left)
+mark-requires c κs = in-use (c .before .before .before .before .before .args .self) (c .before .before .before .before .before .pre) (c .before .before .before .before .if1 .left)
 
 returns-4 : tie.Need-returns-4
+unfolding timer timer-refusals
 returns-4 c =
-    let third = c .before .before in
-    let second = third .before .before in
-    let first = second .before .before in
-    let a = first .before .args in
-    let low = sym (ap not (second .before .psn-ok .ensures)) ∙ second .if2 .left in
-    let is-sent = sym (third .before .unsent .ensures) ∙ third .if3 .left in
-    let on = timer-done (a .self) (first .if1 .left) (a .psn) low is-sent in
+    let a = c .before .before .before .before .before .before .before .args in
+    let on = none-left _ _ (past-unsent (c .before .before)) in
     marks-meet answer.Expired (a .self) (a .psn .0) _ (c .before .mark .result) on (c .before .mark .ensures)
 
 pub timer-spec : {M : Type 1} → statement M

@@ -45,7 +45,7 @@ returns-2 c =
     let i = c .before .before .before .before in
     let e = i .before in
     let h : e .args .slot < length (e .args .self .slots) = inside i in
-    stored (e .args .self .slots) (e .args .slot) (e .args .event) (e .pre) (i .if1 .left) h (s .result .answer) (s .result .«record»)
+    stored (e .args .self .slots) (e .args .slot) (e .args .event) (e .pre) (i .if1 .left) h (s .result)
     (rw (getD-within empty) at (s .ensures))
 
 pub on-spec : {M : Type 1} → statement M

@@ -1,0 +1,96 @@
+-- The fields of a kind, by a test of all layouts: at most as many as the code has room for, none above 64 bits, in all whole bytes. And an
+-- event has as many fields as its kind. Assumes nothing.
+use mathlib.Core.Path.{_≡_, refl, ap, _∙_}
+use mathlib.Core.Bool.{Bool, true, _&&_}
+use mathlib.Core.List.{List, [], _∷_, map}
+use Prim.Native.Nat.{ℕ, zero, suc, _-_, _%_, _^_, _≤_}
+use native.Mathlib.Omega.{arith}
+use borrow.Author.Tests.{leb-true, ltb-true}
+use lib.Dec.{leb, ltb}
+use lib.ListN.{length, getD, length-map}
+use Rattle.lists.specs.Lists.{sum}
+use Rattle.lists.proofs.Joined.{and-true-each}
+use Rattle.fields.specs.Fields.{Layout}
+use Rattle.fields.proofs.Padding.{sum-padded}
+use Rattle.rules.specs.Kinds.{kind-of, fields-of, layouts, layout, width, widths, kind-ok}
+use Rattle.rules.specs.declared.Cell.{Cell}
+use Rattle.rules.specs.declared.Sending.the-variants as sending
+use Rattle.rules.specs.declared.Use.the-variants as use-of
+use Rattle.rules.specs.declared.Event.{Event}
+use Rattle.rules.specs.declared.Event.the-variants as event
+use Rattle.rules.proofs.Cells.{whole-bytes}
+use Rattle.kinds.specs.Padded.{most, padded}
+use Rattle.kinds.proofs.Padded.{padded-is, padded-at}
+
+-- what holds of each entry and of the default holds at every index
+all : {A : Type 0} → (A → Bool) → List A → Bool
+all f [] = true
+all f (a ∷ l) = f a && all f l
+
+all-at : {A : Type 0} (f : A → Bool) (l : List A) (d : A) → all f l ≡ true → f d ≡ true → (i : ℕ) → f (getD l i d) ≡ true
+unfolding all
+all-at f [] d h e i = e
+all-at f (a ∷ l) d h e zero = and-true-each (f a) (all f l) h .0
+all-at f (a ∷ l) d h e (suc i) = all-at f l d (and-true-each (f a) (all f l) h .1) e i
+
+narrow : ℕ → Bool
+narrow w = leb w 64
+
+short : List ℕ → Bool
+short ws = ltb (sum ws) (2 ^ 32)
+
+held : List Cell → Bool
+held cs = leb (length cs) most && (all narrow (map width cs) && short (map width cs))
+
+-- what the test says of a kind
+record Held (k : ℕ) : Type 0 where
+  few : leb (length (layout k)) most ≡ true
+  each : all narrow (widths k) ≡ true
+  total : short (widths k) ≡ true
+
+held-kind : (k : ℕ) → Held k
+unfolding widths layout layouts held all narrow short width sum
+held-kind k =
+    let h = and-true-each (leb (length (layout k)) most) (all narrow (widths k) && short (widths k)) (all-at held layouts [] refl refl k) in
+    let t = and-true-each (all narrow (widths k)) (short (widths k)) (h .1) in
+    record { few = h .0; each = t .0; total = t .1 }
+
+pub few-cells : (k : ℕ) → length (layout k) ≤ most
+few-cells k = leb-true (length (layout k)) most (held-kind k .few)
+
+pub few-fields : (k : ℕ) → length (widths k) ≤ most
+unfolding widths
+few-fields k = omega (arith, few-cells k, length-map (layout k) width)
+
+-- ---- as the crate fields wants them
+pub layout-laid : (k : ℕ) → kind-ok k ≡ true → Layout (widths k)
+unfolding narrow short
+layout-laid k known = record {
+  whole = whole-bytes k known;
+  narrow = λ i. leb-true (getD (widths k) i 0) 64 (all-at narrow (widths k) 0 (held-kind k .each) refl i);
+  short = ltb-true (sum (widths k)) (2 ^ 32) (held-kind k .total);
+}
+
+pub sum-widths : (k : ℕ) → sum (padded (widths k)) ≡ sum (widths k)
+sum-widths k = ap sum (padded-is (widths k) (few-fields k)) ∙ sum-padded (widths k) (most - length (widths k))
+
+pub padded-laid : (k : ℕ) → kind-ok k ≡ true → Layout (padded (widths k))
+padded-laid k known =
+    let y = layout-laid k known in
+    record {
+      whole = ap (λ (n : ℕ). n % 8) (sum-widths k) ∙ y .whole;
+      narrow = λ i. rw (padded-at (widths k) (few-fields k)) (y .narrow i);
+      short = rw (sum-widths k) (y .short);
+    }
+
+-- ---- an event's fields
+pub length-fields : (e : Event) → length (fields-of e) ≡ length (widths (kind-of e))
+unfolding kind-of fields-of widths layout layouts
+length-fields (event.Start s) = refl
+length-fields (event.Use use-of.Close) = refl
+length-fields (event.Use (use-of.Sends (sending.Send z))) = refl
+length-fields (event.Use (use-of.Receives a)) = refl
+length-fields (event.Use (use-of.Sends (sending.Sack c b))) = refl
+length-fields (event.Use (use-of.Sends (sending.Nack p n))) = refl
+length-fields (event.Use (use-of.Sends (sending.Timer p))) = refl
+length-fields (event.Use (use-of.Sends sending.Resend)) = refl

@@ -1,0 +1,2 @@
+-- Lists in the code's arrays.
+pub mod Padded

@@ -1,0 +1,2 @@
+-- Marks over rows of words.
+pub mod Marks

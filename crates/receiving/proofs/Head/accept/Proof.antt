@@ -1,0 +1,100 @@
+-- `Head::accept` meets its contract: the words after each call, by what the calls ensure, and the laws of accepting. Assumes nothing.
+use Prim.Native.Nat.{_<_}
+use native.Mathlib.Omega.{arith}
+use borrow.Author.Needs.{needs}
+use Rattle.rules.proofs.Allowed.{room-numbers}
+use Rattle.receiving.specs.Lent.{Lent, lent}
+use Rattle.receiving.proofs.Entries.{fresh-within}
+use Rattle.receiving.proofs.Accepting.{past-offset, accept-started, accept-means}
+use Rattle.receiving.proofs.Head.accept.Statement.{statement}
+use Rattle.receiving.proofs.Head.accept.Tie as tie
+
+abbrev lent-at : tie.Start → Lent
+lent-at e = lent (e .args .self) (e .args .words .now)
+
+-- the entry, from where the distance is known
+abbrev entry : tie.After-distance → tie.Start
+entry c = c .before .before .before .before .before .before
+
+inside : (c : tie.After-distance) → c .distance .result < entry c .args .self .room
+inside c = let e = entry c in fresh-within (lent-at e) (e .args .a) (c .distance .result) (c .distance .ensures) (e .pre .1)
+
+distance-requires : tie.Need-distance-requires
+distance-requires c κs = search needs
+
+add-set : tie.Need-add-set
+add-set c = omega (arith, inside c, room-numbers (entry c .args .self .room) (entry c .pre .0 .room-good))
+
+set-requires : tie.Need-set-requires
+set-requires c κs = search needs
+
+add-run : tie.Need-add-run
+add-run c =
+    let e = entry (c .before .before .before .before) in
+    omega (arith, room-numbers (e .args .self .room) (e .pre .0 .room-good))
+
+run-requires : tie.Need-run-requires
+run-requires c κs = search needs
+
+cast-shed : tie.Need-cast-shed
+cast-shed c = search needs
+
+shed-requires : tie.Need-shed-requires
+shed-requires c κs = search needs
+
+sub-after : tie.Need-sub-after
+sub-after c =
+    let run = c .before .before .before .before in
+    let set = run .before .before .before .before in
+    let d = set .before in
+    let e = entry d in
+    past-offset (lent-at e) (e .pre .0) (d .distance .result) (inside d) (set .set .last .0) (set .set .ensures) (run .run .result) (run .run .ensures)
+
+after-requires : tie.Need-after-requires
+after-requires c κs = search needs
+
+cast-wrapping-add-u32 : tie.Need-cast-wrapping-add-u32
+cast-wrapping-add-u32 c = search needs
+
+wrapping-add-u32-requires : tie.Need-wrapping-add-u32-requires
+wrapping-add-u32-requires c κs = search needs
+
+same-length : tie.Need-same-length
+same-length c = search needs
+
+returns : tie.Need-returns
+returns c =
+    let moved = c .before .before .after in
+    let shed = c .before .before .before .before .before in
+    let run = shed .before .before in
+    let set = run .before .before .before .before in
+    let d = set .before in
+    let e = entry d in
+    let count = c .wrapping-add-u32 in
+    record {
+      started =
+          accept-started (lent-at e) (e .pre .0) (d .distance .result) (inside d) (set .set .last .0) (set .set .ensures)
+          (run .run .result) (run .run .ensures) (shed .shed .last .0) (shed .shed .ensures) (moved .result) (moved .ensures) (count .result);
+      accepted-is =
+          accept-means (lent-at e) (e .pre .0) (d .distance .result) (inside d) (set .set .last .0) (set .set .ensures)
+          (run .run .result) (run .run .ensures) (shed .shed .last .0) (shed .shed .ensures) (moved .result) (moved .ensures) (count .result)
+          (e .args .a) (d .distance .ensures) (count .ensures);
+    }
+
+pub accept-spec : {M : Type 1} → statement M
+accept-spec =
+    tie.close
+    (tie.spec
+    distance-requires
+    add-set
+    set-requires
+    add-run
+    run-requires
+    cast-shed
+    shed-requires
+    sub-after
+    after-requires
+    cast-wrapping-add-u32
+    wrapping-add-u32-requires
+    same-length
+    returns)

@@ -1,0 +1,53 @@
+-- A receiver's head over the words lent to it: what they mean, which there are, and what an arrival owes.
+use mathlib.Core.Path.{_≡_}
+use mathlib.Core.Bool.{Bool, true, false}
+use mathlib.Core.List.{List}
+use Prim.Native.Nat.{ℕ, _+_, _*_, _%_, _≤_, _<_}
+use lib.ListN.{length}
+use Rattle.lists.specs.Index.{table}
+use Rattle.row.specs.Row.{at}
+use Rattle.rules.specs.Numbers.{turn, room-ok}
+use Rattle.promise.specs.Promise.{Meets}
+use Rattle.rules.specs.Receiver.{Receiver, accept}
+use Rattle.rules.specs.Receiving.{arrive}
+use Rattle.rules.specs.Paper.{paper}
+use Rattle.rules.specs.declared.Arrival.{Arrival}
+use Rattle.receiving.specs.declared.Head.{Head}
+use Rattle.receiving.specs.declared.Stepped.{Stepped}
+
+pub record Lent : Type 0 where
+  pub head : Head
+  pub words : List ℕ
+
+abbrev pub lent : Head → List ℕ → Lent
+lent h ws = record { head = h; words = ws }
+
+-- the bit of E in the first word
+abbrev pub offset : Lent → ℕ
+offset x = x .head .expected .0 % 64
+
+-- whether E + o is accepted
+abbrev pub accepted : Lent → ℕ → Bool
+accepted x o = at (x .words) (offset x + o)
+
+unfoldable pub meaning : Lent → Receiver
+meaning x = record { expected = x .head .expected .0; window = table (x .head .room) (accepted x); count = x .head .count }
+
+-- a receiver that was started, over words enough for its room
+pub record Started (x : Lent) : Type 0 where
+  pub room-good : room-ok (x .head .room) ≡ true
+  pub expected-low : x .head .expected .0 < turn
+  pub enough : x .head .room + 64 ≤ 64 * length (x .words)
+  -- all before E are accepted, E itself is not, and nothing past the window is
+  pub before : (p : ℕ) → p < offset x → at (x .words) p ≡ true
+  pub expected-open : at (x .words) (offset x) ≡ false
+  pub past : (p : ℕ) → offset x + x .head .room ≤ p → at (x .words) p ≡ false
+
+-- an arrival that is fresh leaves the rule's next record
+pub record Accepts (x : Lent) (a : Arrival) (y : Lent) : Type 0 where
+  pub started : Started y
+  pub accepted-is : meaning y ≡ accept (meaning x) a
+
+-- an arrival is answered r, and the words after it are ws
+abbrev pub Arrives : Lent → Arrival → Stepped → List ℕ → Type 0
+Arrives x a r ws = Meets paper Started meaning x (arrive (meaning x) a) (r .answer) (lent (r .«record») ws)

@@ -1,0 +1,2 @@
+-- What a head over its words means, and which there are.
+pub mod Lent
