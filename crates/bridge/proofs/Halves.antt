@@ -117,7 +117,8 @@ module _ {P Q E : Type 0} (H : Half P Q E) (t : List Connection) (i : ℕ) (here
   half-record = goes-record t i named here ∙ ap (left c) by-half
 
   -- what the law leaves in one half leaves the other
-  left-half : (o : Outcome Answer P) → (H .mine (left c (within (H .with-mine c) o)) ≡ left (H .mine c) o) × (H .other (left c (within (H .with-mine c) o)) ≡ H .other c)
+  left-half : (o : Outcome Answer P)
+      → (H .mine (left c (within (H .with-mine c) o)) ≡ left (H .mine c) o) × (H .other (left c (within (H .with-mine c) o)) ≡ H .other c)
   unfolding left within
   left-half (Refused n) = (refl, refl)
   left-half (Done x a) = (H .has-mine c x, H .has-other c x)

@@ -33,7 +33,8 @@ abbrev Here : ℕ → List Connection → Type 0
 Here i t = outside (meaning t) i ≡ false
 
 -- what any half of the connection in slot i is in the rules' table; `in-it` is what the half's own record means
-module _ {P Q E : Type 0} (H : Half P Q E) (i : ℕ) (in-it : List Connection → P) (at-it : (t : List Connection) → H .mine (at (meaning t) i) ≡ in-it t) where
+module _ {P Q E : Type 0} (H : Half P Q E) (i : ℕ) (in-it : List Connection → P)
+    (at-it : (t : List Connection) → H .mine (at (meaning t) i) ≡ in-it t) where
   steps : (t : List Connection) (e : E) (a : Answer) (u : List Connection) → Here i t → On t i (event.Use (H .event-of e)) a u
       → Gives (in-it t) (H .law (in-it t) e) a (in-it u) × Here i u
   steps t e a u here m =
@@ -92,13 +93,19 @@ receiver-stays : (i : ℕ) (t : List rule.Connection) → outside t i ≡ false 
 unfolding sending-half
 receiver-stays i t here slot _ (sends e) = other-same sending-half t i here slot e
 
+abbrev fresh-sender : Opening → rule-sender.Sender
+fresh-sender o = rule-sender.fresh (o .room) (o .first .0)
+
+abbrev fresh-receiver : Opening → rule-receiver.Receiver
+fresh-receiver o = rule-receiver.fresh (o .room) (o .first .0)
+
 unfoldable sender-follows : (i j : ℕ) → Follows (tables i j .sender) (rules .sender)
 unfolding fresh sending-half
 sender-follows i j = record {
   meaning = sending-in i;
   Kept = Here i;
   places = λ t. refl;
-  begins = λ o t good low b. begins sending-half i (sending-in i) (sending-at i) (λ o. rule-sender.fresh (o .room) (o .first .0)) sending-opens (λ s. refl) o t b;
+  begins = λ o t good low b. begins sending-half i (sending-in i) (sending-at i) fresh-sender sending-opens (λ s. refl) o t b;
   steps = λ t e a u k m. steps sending-half i (sending-in i) (sending-at i) t e a u k m;
   beside = λ t u k b. beside sending-half i (sending-in i) (sending-at i) Receiving (sender-stays i) t u k b;
 }
@@ -109,7 +116,7 @@ receiver-follows i j = record {
   meaning = receiving-in j;
   Kept = Here j;
   places = λ t. refl;
-  begins = λ o t good low b. begins receiving-half j (receiving-in j) (receiving-at j) (λ o. rule-receiver.fresh (o .room) (o .first .0)) receiving-opens (λ s. refl) o t b;
+  begins = λ o t good low b. begins receiving-half j (receiving-in j) (receiving-at j) fresh-receiver receiving-opens (λ s. refl) o t b;
   steps = λ t e a u k m. steps receiving-half j (receiving-in j) (receiving-at j) t e a u k m;
   beside = λ t u k b. beside receiving-half j (receiving-in j) (receiving-at j) Sending (receiver-stays j) t u k b;
 }

@@ -1,9 +1,9 @@
 -- Big-endian fields, each so many bits wide, over bytes. A list of bytes is one number, its first byte the highest; a list of values
 -- with their widths is one number too, its first field the highest; and the two numbers are the same.
 use mathlib.Core.Path.{_≡_}
-use mathlib.Core.List.{List, [], _∷_}
+use mathlib.Core.List.{List, [], _∷_, _++_}
 use Prim.Native.Nat.{ℕ, zero, suc, _+_, _*_, _/_, _%_, _^_, _≤_, _<_}
-use lib.ListN.{length, getD, take}
+use lib.ListN.{length, getD, take, drop}
 use Rattle.lists.specs.Lists.{sum}
 
 -- ---- bytes
@@ -44,6 +44,10 @@ encode ws vs = spell (size ws) (joined ws vs)
 -- the values of the fields that bytes begin with
 unfoldable pub decode : List ℕ → List ℕ → List ℕ
 decode ws l = parted ws (number (take (size ws) l))
+
+-- the bytes l with those fields at their front: later bytes stay
+abbrev pub written : List ℕ → List ℕ → List ℕ → List ℕ
+written ws vs l = encode ws vs ++ drop (size ws) l
 
 -- a value for each width, and each fits
 unfoldable pub Fits : List ℕ → List ℕ → Type 0

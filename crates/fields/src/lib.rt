@@ -1,11 +1,10 @@
 // Big-endian fields, each so many bits wide, over lent bytes: how many bytes they take, reading them and writing them. The widths are
 // lent too, so that a record of a log and a message of the wire are lists of widths and nothing more.
 ghost use mathlib.Core.Path.{_≡_};
-ghost use mathlib.Core.List.{_++_};
 ghost use Prim.Native.Nat.{_+_, _-_, _*_, _%_, _^_, _≤_, _<_, min};
-ghost use lib.ListN.{length, drop};
-ghost use Rattle.fields.specs.Fields.{Laid, Layout, decode, encode, number, size as size-of};
-ghost use Rattle.fields.specs.Parts.{cut, placed, InBytes};
+ghost use lib.ListN.{length};
+ghost use Rattle.fields.specs.Fields.{Laid, Layout, decode, number, size as size-of, written};
+ghost use Rattle.fields.specs.Parts.{cut, placed, InBytes, Puts};
 
 // How many bytes fields of these widths take.
 pub fn size(widths: &[u8]) -> usize
@@ -91,7 +90,7 @@ fn over(byte: u8, below: usize, many: usize, v: u64) -> u8
 // The width lowest bits of v, put into the bytes from bit from on. All other bits stay.
 fn put(bytes: &mut [u8], from: usize, width: usize, v: u64)
     requires { ⌜ InBytes from width (length (now bytes)) ⌝ }
-    ensures { λ _. ⌜ number (now (bytes .exit)) ≡ placed (8 * length (now (bytes .entry)) - (from + width)) width v (number (now (bytes .entry))) ⌝ }
+    ensures { λ _. ⌜ Puts from width v (now (bytes .entry)) (now (bytes .exit)) ⌝ }
 {
     let end = from + width;
     let mut at = from;
@@ -107,7 +106,7 @@ fn put(bytes: &mut [u8], from: usize, width: usize, v: u64)
 // The fields with these values, from the first byte on. Later bytes stay.
 pub fn write(bytes: &mut [u8], widths: &[u8], values: &[u64])
     requires { ⌜ Laid (now widths) (length (now bytes)) (length (now values)) ⌝ }
-    ensures { λ _. ⌜ now (bytes .exit) ≡ encode (now (widths .entry)) (now (values .entry)) ++ drop (size-of (now (widths .entry))) (now (bytes .entry)) ⌝ }
+    ensures { λ _. ⌜ now (bytes .exit) ≡ written (now (widths .entry)) (now (values .entry)) (now (bytes .entry)) ⌝ }
 {
     let mut at: usize = 0;
     let mut i: usize = 0;

@@ -1,12 +1,12 @@
--- The fields of a kind, by a test of all layouts: at most as many as the code has room for, none above 64 bits, in all whole bytes. And an
+-- The fields of a kind are at most as many as the code has room for, by a test of all layouts, and padded they are a layout still. And an
 -- event has as many fields as its kind. Assumes nothing.
 use mathlib.Core.Path.{_≡_, refl, ap, _∙_}
 use mathlib.Core.Bool.{Bool, true, _&&_}
-use mathlib.Core.List.{List, [], _∷_, map}
-use Prim.Native.Nat.{ℕ, zero, suc, _-_, _%_, _^_, _≤_}
+use mathlib.Core.List.{List, [], _∷_}
+use Prim.Native.Nat.{ℕ, zero, suc, _-_, _%_, _≤_}
 use native.Mathlib.Omega.{arith}
-use borrow.Author.Tests.{leb-true, ltb-true}
-use lib.Dec.{leb, ltb}
+use borrow.Author.Tests.{leb-true}
+use lib.Dec.{leb}
 use lib.ListN.{length, getD, length-map}
 use Rattle.lists.specs.Lists.{sum}
 use Rattle.lists.proofs.Joined.{and-true-each}
@@ -18,7 +18,7 @@ use Rattle.rules.specs.declared.Sending.the-variants as sending
 use Rattle.rules.specs.declared.Use.the-variants as use-of
 use Rattle.rules.specs.declared.Event.{Event}
 use Rattle.rules.specs.declared.Event.the-variants as event
-use Rattle.rules.proofs.Cells.{whole-bytes}
+use Rattle.rules.proofs.Cells.{laid}
 use Rattle.kinds.specs.Padded.{most, padded}
 use Rattle.kinds.proofs.Padded.{padded-is, padded-at}
 
@@ -33,50 +33,24 @@ all-at f [] d h e i = e
 all-at f (a ∷ l) d h e zero = and-true-each (f a) (all f l) h .0
 all-at f (a ∷ l) d h e (suc i) = all-at f l d (and-true-each (f a) (all f l) h .1) e i
 
-narrow : ℕ → Bool
-narrow w = leb w 64
-
-short : List ℕ → Bool
-short ws = ltb (sum ws) (2 ^ 32)
-
-held : List Cell → Bool
-held cs = leb (length cs) most && (all narrow (map width cs) && short (map width cs))
-
--- what the test says of a kind
-record Held (k : ℕ) : Type 0 where
-  few : leb (length (layout k)) most ≡ true
-  each : all narrow (widths k) ≡ true
-  total : short (widths k) ≡ true
-
-held-kind : (k : ℕ) → Held k
-unfolding widths layout layouts held all narrow short width sum
-held-kind k =
-    let h = and-true-each (leb (length (layout k)) most) (all narrow (widths k) && short (widths k)) (all-at held layouts [] refl refl k) in
-    let t = and-true-each (all narrow (widths k)) (short (widths k)) (h .1) in
-    record { few = h .0; each = t .0; total = t .1 }
+few : List Cell → Bool
+few cs = leb (length cs) most
 
 pub few-cells : (k : ℕ) → length (layout k) ≤ most
-few-cells k = leb-true (length (layout k)) most (held-kind k .few)
+unfolding layout layouts all few
+few-cells k = leb-true (length (layout k)) most (all-at few layouts [] refl refl k)
 
 pub few-fields : (k : ℕ) → length (widths k) ≤ most
 unfolding widths
 few-fields k = omega (arith, few-cells k, length-map (layout k) width)
 
 -- ---- as the crate fields wants them
-pub layout-laid : (k : ℕ) → kind-ok k ≡ true → Layout (widths k)
-unfolding narrow short
-layout-laid k known = record {
-  whole = whole-bytes k known;
-  narrow = λ i. leb-true (getD (widths k) i 0) 64 (all-at narrow (widths k) 0 (held-kind k .each) refl i);
-  short = ltb-true (sum (widths k)) (2 ^ 32) (held-kind k .total);
-}
-
 pub sum-widths : (k : ℕ) → sum (padded (widths k)) ≡ sum (widths k)
 sum-widths k = ap sum (padded-is (widths k) (few-fields k)) ∙ sum-padded (widths k) (most - length (widths k))
 
 pub padded-laid : (k : ℕ) → kind-ok k ≡ true → Layout (padded (widths k))
 padded-laid k known =
-    let y = layout-laid k known in
+    let y = laid k known in
     record {
       whole = ap (λ (n : ℕ). n % 8) (sum-widths k) ∙ y .whole;
       narrow = λ i. rw (padded-at (widths k) (few-fields k)) (y .narrow i);

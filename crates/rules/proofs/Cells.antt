@@ -1,15 +1,16 @@
 -- The fields of a record by their cells: where no PSN is high they fit the record, and what a record holds fits an event and has no high
--- PSN. By induction on the cells. And the fields of every kind fill whole bytes. Assumes nothing.
+-- PSN. By induction on the cells. And the fields of every kind fill whole bytes, by a test of each. Assumes nothing.
 use mathlib.Core.Path.{_≡_, refl}
 use mathlib.Core.Bool.{true, false, _||_}
 use mathlib.Core.List.{List, [], _∷_, map}
-use Prim.Native.Nat.{ℕ, _%_, _^_, _≤_, _<_}
+use Prim.Native.Nat.{ℕ, _^_, _<_}
 use native.Mathlib.Omega.{arith}
 use borrow.Author.Tests.{leb-false, lt-leb}
 use lib.Dec.{leb}
 use Rattle.lists.specs.Lists.{sum}
 use Rattle.lists.proofs.Joined.{or-false-each}
-use Rattle.fields.specs.Fields.{Fits}
+use Rattle.fields.specs.Fields.{Fits, Layout}
+use Rattle.fields.proofs.Checked.{narrow, fine, checked}
 use Rattle.rules.specs.Numbers.{turn}
 use Rattle.rules.specs.Kinds.{layouts, layout, width, event-width, widths, kind-ok}
 use Rattle.rules.specs.Log.{high-cell, high-psn}
@@ -45,6 +46,6 @@ fits-low (c ∷ cs) [] f = refl
 fits-low (cell.Psn ∷ cs) (v ∷ vs) f = rw (lt-leb turn v (f .0)) (fits-low cs vs (f .1))
 fits-low (cell.Bits n ∷ cs) (v ∷ vs) f = fits-low cs vs (f .1)
 
-pub whole-bytes : (k : ℕ) → kind-ok k ≡ true → sum (widths k) % 8 ≡ 0
-unfolding widths layout layouts width sum
-whole-bytes k o = by-kind (λ n. sum (widths n) % 8 ≡ 0) refl refl refl refl refl refl refl refl k o
+pub laid : (k : ℕ) → kind-ok k ≡ true → Layout (widths k)
+unfolding widths layout layouts width fine narrow sum
+laid k o = checked (widths k) (by-kind (λ n. fine (widths n) ≡ true) refl refl refl refl refl refl refl refl k o)

@@ -33,7 +33,8 @@ whole-start c s w =
     after-unless Whole c (start-refusals s) _ w λ p.
     after-done Whole c _ _ (inr (record {
       sends = sends-fresh (s .sending .room) (s .sending .first .0) (not-false _ (p .0));
-      receives = receives-fresh (s .receiving .room) (s .receiving .first .0) (not-false _ (p .1 .0)) (ltb-true (s .receiving .first .0) turn (not-false _ (p .1 .1 .1 .0)));
+      receives = receives-fresh (s .receiving .room) (s .receiving .first .0) (not-false _ (p .1 .0))
+          (ltb-true (s .receiving .first .0) turn (not-false _ (p .1 .1 .1 .0)));
     }))
 
 -- an empty connection refuses all else

@@ -6,7 +6,8 @@ use native.Mathlib.Omega.{arith}
 use Rattle.fields.specs.Fields.{size}
 use Rattle.rules.specs.Numbers.{record-head}
 use Rattle.rules.specs.Kinds.{widths as widths-of}
-use Rattle.kinds.proofs.Layouts.{layout-laid, padded-laid}
+use Rattle.kinds.proofs.Layouts.{padded-laid}
+use Rattle.rules.proofs.Cells.{laid}
 use Rattle.event_log.proofs.ArrayFields.{size-padded}
 use Rattle.event_log.proofs.whole.Statement.{statement}
 use Rattle.event_log.proofs.whole.Tie as tie
@@ -24,7 +25,7 @@ size-requires : tie.Need-size-requires
 size-requires c κs = rw (c .before .widths .ensures) (padded-laid (c .before .before .args .kind) (c .before .before .pre))
 
 add-result : tie.Need-add-result
-add-result c = omega (arith, size-is c, layout-laid (c .before .before .before .args .kind) (c .before .before .before .pre) .short)
+add-result c = omega (arith, size-is c, laid (c .before .before .before .args .kind) (c .before .before .before .pre) .short)
 
 returns : tie.Need-returns
 returns c = ap (λ (n : ℕ). record-head + n) (size-is c)
