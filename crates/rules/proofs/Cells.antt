@@ -16,7 +16,7 @@ use Rattle.rules.specs.Kinds.{layouts, layout, width, event-width, width
 use Rattle.rules.specs.Log.{high-cell, high-psn}
 use Rattle.rules.specs.declared.Cell.{Cell}
 use Rattle.rules.specs.declared.Cell.the-variants as cell
-use Rattle.rules.proofs.EventKinds.{by-kind}
+use Rattle.rules.proofs.EventKinds.{Each, by-kind}
 
 -- an event whose PSNs are not high fits a record
 pub low-fits : (cs : List Cell) (vs : List ℕ) → Fits (map event-width cs) vs → high-psn cs vs ≡ false → Fits (map width cs) vs
@@ -47,5 +47,5 @@ fits-low (cell.Psn ∷ cs) (v ∷ vs) f = rw (lt-leb turn v (f .0)) (fits-low cs
 fits-low (cell.Bits n ∷ cs) (v ∷ vs) f = fits-low cs vs (f .1)
 
 pub laid : (k : ℕ) → kind-ok k ≡ true → Layout (widths k)
-unfolding widths layout layouts width fine narrow sum
-laid k o = checked (widths k) (by-kind (λ n. fine (widths n) ≡ true) refl refl refl refl refl refl refl refl k o)
+unfolding widths layout layouts width fine narrow sum Each
+laid k o = checked (widths k) (by-kind (λ n. fine (widths n) ≡ true) (refl, (refl, (refl, (refl, (refl, (refl, (refl, (refl, tt)))))))) k o)

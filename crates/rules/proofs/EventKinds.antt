@@ -1,8 +1,9 @@
--- A kind with its fields and the event that it makes undo one another, by the eight kinds. Assumes nothing.
-use mathlib.Core.Path.{_≡_, refl, sym, ap, _∙_}
+-- A kind with its fields and the event that it makes undo one another, kind by kind. Assumes nothing.
+use mathlib.Core.Path.{_≡_, refl, sym, ap, _∙_, subst}
 use mathlib.Core.Bool.{true}
 use mathlib.Core.List.{List, [], _∷_}
-use Prim.Native.Nat.{ℕ, zero, suc, _+_, _≤_, _<_}
+use Prim.Native.Nat.{ℕ, zero, suc, _+_, _-_, _≤_, _<_}
+use native.Mathlib.Decide.{ℕ-discrete}
 use native.Mathlib.Omega.{arith}
 use borrow.Author.Tests.{ltb-true, leb-true}
 use lib.Dec.{leb, ltb}
@@ -37,27 +38,30 @@ event-again (event.Use (use-of.Sends (sending.Nack p n))) = refl
 event-again (event.Use (use-of.Sends (sending.Timer p))) = refl
 event-again (event.Use (use-of.Sends sending.Resend)) = refl
 
-known-range : (k : ℕ) → kind-ok k ≡ true → (1 ≤ k) × (k < 9)
-unfolding layouts
-known-range k o = let h = and-true-each (leb 1 k) (ltb k 9) o in (leb-true 1 k (h .0), ltb-true k 9 (h .1))
+known-range : (k : ℕ) → kind-ok k ≡ true → (1 ≤ k) × (k < length layouts)
+known-range k o = let h = and-true-each (leb 1 k) (ltb k (length layouts)) o in (leb-true 1 k (h .0), ltb-true k (length layouts) (h .1))
 
--- a kind that is known is one of the eight
-pub by-kind : (P : ℕ → Type 0) → P 1 → P 2 → P 3 → P 4 → P 5 → P 6 → P 7 → P 8 → (k : ℕ) → kind-ok k ≡ true → P k
-by-kind P a b c d e f g h zero o = absurd (omega (arith, known-range 0 o))
-by-kind P a b c d e f g h (suc zero) o = a
-by-kind P a b c d e f g h (suc (suc zero)) o = b
-by-kind P a b c d e f g h (suc (suc (suc zero))) o = c
-by-kind P a b c d e f g h (suc (suc (suc (suc zero)))) o = d
-by-kind P a b c d e f g h (suc (suc (suc (suc (suc zero))))) o = e
-by-kind P a b c d e f g h (suc (suc (suc (suc (suc (suc zero)))))) o = f
-by-kind P a b c d e f g h (suc (suc (suc (suc (suc (suc (suc zero))))))) o = g
-by-kind P a b c d e f g h (suc (suc (suc (suc (suc (suc (suc (suc zero)))))))) o = h
-by-kind P a b c d e f g h (suc (suc (suc (suc (suc (suc (suc (suc (suc k))))))))) o =
-    absurd (omega (arith, known-range (suc (suc (suc (suc (suc (suc (suc (suc (suc k))))))))) o))
+-- P of each of n kinds, from k on
+unfoldable pub Each : (ℕ → Type 0) → ℕ → ℕ → Type 0
+Each P k zero = Unit {0}
+Each P k (suc n) = P k × Each P (suc k) n
+
+each-at : (P : ℕ → Type 0) (k n : ℕ) → Each P k n → (i : ℕ) → k ≤ i → i < k + n → P i
+unfolding Each
+each-at P k zero e i l h = absurd (omega arith)
+each-at P k (suc n) e i l h = go (ℕ-discrete k i) (λ m. each-at P (suc k) n (e .1) i m (omega arith))
+  where
+    go : Dec (k ≡ i) → (suc k ≤ i → P i) → P i
+    go (yes p) more = subst P p (e .0)
+    go (no p) more = more (omega arith)
+
+-- what holds of each kind holds of a kind that is known
+pub by-kind : (P : ℕ → Type 0) → Each P 1 (length layouts - 1) → (k : ℕ) → kind-ok k ≡ true → P k
+by-kind P e k o = let r = known-range k o in each-at P 1 (length layouts - 1) e k (r .0) (omega (arith, r .0, r .1))
 
 pub kind-again : (k : ℕ) (l : List ℕ) → kind-ok k ≡ true → kind-of (event-of k l) ≡ k
-unfolding event-of kind-of
-kind-again k l o = by-kind (λ n. kind-of (event-of n l) ≡ n) refl refl refl refl refl refl refl refl k o
+unfolding event-of kind-of layouts Each
+kind-again k l o = by-kind (λ n. kind-of (event-of n l) ≡ n) (refl, (refl, (refl, (refl, (refl, (refl, (refl, (refl, tt)))))))) k o
 
 -- the n elements from place i on
 listed : List ℕ → ℕ → ℕ → List ℕ
@@ -70,10 +74,10 @@ listed-all l i zero h = sym (drop-of-length-le l {i = i} (omega arith))
 listed-all l i (suc n) h = ap (λ (t : List ℕ). getD l i 0 ∷ t) (listed-all l (suc i) n (omega arith)) ∙ sym (drop-cons l i 0 (omega arith))
 
 pub fields-again : (k : ℕ) (l : List ℕ) → kind-ok k ≡ true → length l ≡ length (layout k) → fields-of (event-of k l) ≡ l
-unfolding event-of fields-of layout layouts listed
+unfolding event-of fields-of layout layouts listed Each
 fields-again k l o =
     by-kind (λ n. length l ≡ length (layout n) → fields-of (event-of n l) ≡ l)
-    (all 4) (all 0) (all 1) (all 4) (all 3) (all 2) (all 1) (all 0) k o
+    (all 4, (all 0, (all 1, (all 4, (all 3, (all 2, (all 1, (all 0, tt)))))))) k o
   where
     all : (n : ℕ) → length l ≡ n → listed l 0 n ≡ l
     all n h = listed-all l 0 n (omega arith)
