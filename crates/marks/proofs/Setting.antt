@@ -1,11 +1,13 @@
--- A mark set, or not: by the two tests that come before it. Assumes nothing.
-use mathlib.Core.Path.{_≡_, refl, sym, ap, _∙_}
+-- A mark set, or not: by the tests that come before it. Assumes nothing.
+use mathlib.Core.Path.{_≡_, refl, sym, ap, ap₂, _∙_}
 use mathlib.Core.Bool.{Bool, true, false, not, cond, _&&_, _||_, or-false, and-false}
 use mathlib.Core.List.{List}
-use Prim.Native.Nat.{ℕ}
+use Prim.Native.Nat.{ℕ, _+_, _≤_, _<_}
 use lib.Dec.{eqb, ltb}
+use borrow.Author.Tests.{lt-ltb, le-ltb}
+use Rattle.psn.specs.Psn.{after, distance}
 use Rattle.row.specs.Row.{at, bits, Becomes, with-bit}
-use Rattle.marks.specs.Marks.{markable, Marks}
+use Rattle.marks.specs.Marks.{markable, Marks, offset, bit-of, markable-psn, MarksPsn}
 
 -- a bit joined where it may be, and where it may not
 joined : (a b c : Bool) → (a || b && true && c) ≡ (a || (b && c))
@@ -16,17 +18,17 @@ kept : (a b c : Bool) → (a || b && false && c) ≡ a
 kept a true c = or-false a
 kept a false c = or-false a
 
-module _ (retired marked : List ℕ) (p : ℕ) where
-  -- bit k after, if p may be marked
-  abbrev after-mark : ℕ → Bool → Bool
-  after-mark k may = at marked k || eqb k p && may && ltb k (bits marked)
+-- bit k of the row after, where bit p may be marked or not
+abbrev bit-then : List ℕ → ℕ → ℕ → Bool → Bool
+bit-then marked k p may = at marked k || eqb k p && may && ltb k (bits marked)
 
-  -- nothing is marked
+row-kept : (marked : List ℕ) (p : ℕ) (may : Bool) → may ≡ false → Becomes marked marked (λ k. bit-then marked k p may)
+row-kept marked p may e = record { long = refl; bits-are = λ k. sym (ap (bit-then marked k p) e ∙ kept (at marked k) (eqb k p) (ltb k (bits marked))) }
+
+-- ---- a bit
+module _ (retired marked : List ℕ) (p : ℕ) where
   marks-none : markable retired marked p ≡ false → Marks retired marked p marked 0
-  marks-none e = record {
-    newly-is = sym (ap (λ (b : Bool). cond b 1 0) e);
-    marked-are = record { long = refl; bits-are = λ k. sym (ap (after-mark k) e ∙ kept (at marked k) (eqb k p) (ltb k (bits marked))) };
-  }
+  marks-none e = record { newly-is = sym (ap (λ (b : Bool). cond b 1 0) e); marked-are = row-kept marked p (markable retired marked p) e }
 
   pub marks-retired : at retired p ≡ true → Marks retired marked p marked 0
   marks-retired e = marks-none (ap (λ (b : Bool). not b && not (at marked p)) e)
@@ -41,6 +43,28 @@ module _ (retired marked : List ℕ) (p : ℕ) where
         newly-is = sym (ap (λ (b : Bool). cond b 1 0) may);
         marked-are = record {
           long = set .long;
-          bits-are = λ k. set .bits-are k ∙ sym (ap (after-mark k) may ∙ joined (at marked k) (eqb k p) (ltb k (bits marked)));
+          bits-are = λ k. set .bits-are k ∙ sym (ap (bit-then marked k p) may ∙ joined (at marked k) (eqb k p) (ltb k (bits marked)));
+        };
+      }
+
+-- ---- a packet number p, at the index i
+module _ (retired marked : List ℕ) (place n p i : ℕ) (is : i ≡ distance (after place 1) p) where
+  may-is : (b : Bool) → ltb i n ≡ b → markable-psn retired marked place n p ≡ (b && markable retired marked (offset place + i))
+  may-is b e =
+      ap (λ (j : ℕ). ltb j n && markable retired marked (offset place + j)) (sym is) ∙ ap (λ (c : Bool). c && markable retired marked (offset place + i)) e
+
+  pub marks-past : n ≤ i → MarksPsn retired marked place n p marked 0
+  marks-past l =
+      let none : markable-psn retired marked place n p ≡ false = may-is false (le-ltb i n l) in
+      record { newly-is = sym (ap (λ (b : Bool). cond b 1 0) none); marked-are = row-kept marked (bit-of place p) _ none }
+
+  pub marks-among : i < n → (ws : List ℕ) (r : ℕ) → Marks retired marked (offset place + i) ws r → MarksPsn retired marked place n p ws r
+  marks-among l ws r h =
+      let same : markable-psn retired marked place n p ≡ markable retired marked (offset place + i) = may-is true (lt-ltb i n l) in
+      record {
+        newly-is = h .newly-is ∙ ap (λ (b : Bool). cond b 1 0) (sym same);
+        marked-are = record {
+          long = h .marked-are .long;
+          bits-are = λ k. h .marked-are .bits-are k ∙ ap₂ (bit-then marked k) (ap (λ (j : ℕ). offset place + j) is) (sym same);
         };
       }

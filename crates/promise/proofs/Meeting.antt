@@ -4,10 +4,11 @@ use mathlib.Core.Path.{_≡_, refl, sym, ap, _∙_, subst}
 use mathlib.Core.Bool.{true}
 use Prim.Native.Nat.{ℕ}
 use native.Mathlib.Omega.{arith}
+use lib.ListN.{length}
 use Rattle.promise.specs.Line.{Line, refused}
 use Rattle.promise.specs.Outcome.{Outcome, Refused, Done, Refusals, unless, left, on-paper, within}
 use Rattle.promise.specs.Promise.{Meets}
-use Rattle.promise.proofs.Refusing.{Past, test, number, refused-at}
+use Rattle.promise.proofs.Refusing.{Past, test, number, refused-at, none-left}
 use Rattle.promise.proofs.Outcomes.{left-within, on-paper-within}
 
 -- what is done is not refused
@@ -28,6 +29,11 @@ module _ {A R S : Type 0} {line : A → Line} {Sound : R → Type 0} {meaning : 
   pub returns-at : {o : Outcome A S} (l : Refusals) (d : Outcome A S) → o ≡ unless l d → (i : ℕ) → Past l i → test l i ≡ true
       → line a ≡ refused (number l i) → y ≡ x → Sound x → Meets line Sound meaning x o a y
   returns-at l d e i p t = refuses (number l i) (e ∙ refused-at l d i p t)
+
+  -- the last return: no test is left, and what the rule does is done
+  pub passes : {o : Outcome A S} (l : Refusals) (d : Outcome A S) → o ≡ unless l d → Past l (length l) → Meets line Sound meaning x d a y
+      → Meets line Sound meaning x o a y
+  passes l d e p = subst (λ (o : Outcome A S). Meets line Sound meaning x o a y) (sym (e ∙ none-left l d p))
 
   pub does : {o : Outcome A S} (s : S) (b : A) → o ≡ Done s b → a ≡ b → meaning y ≡ s → Sound y → Meets line Sound meaning x o a y
   unfolding left on-paper

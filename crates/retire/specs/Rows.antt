@@ -2,9 +2,9 @@
 use mathlib.Core.Path.{_≡_}
 use mathlib.Core.Bool.{Bool, not, _&&_, _||_}
 use mathlib.Core.List.{List}
-use Prim.Native.Nat.{ℕ, _+_, _%_}
+use Prim.Native.Nat.{ℕ, _+_, _%_, _≤_}
 use lib.Dec.{leb, ltb}
-use lib.ListN.{getD}
+use lib.ListN.{length, getD}
 use Rattle.psn.specs.Psn.{half, after}
 use Rattle.lists.specs.Index.{tally, weigh}
 use Rattle.word.specs.Word.{bit-at, Bits, only-in}
@@ -34,6 +34,12 @@ size-by sizes first p = getD sizes ((first + p) % largest-room) 0
 -- so many words that the sizes of all their bits, of 16 bits each, add up in 32 bits
 abbrev pub longest-weighed : ℕ
 longest-weighed = 512
+
+-- rows of one length, not too long, and a size for each PSN of the largest room
+pub record Alike (retired marked sizes : List ℕ) : Type 0 where
+  pub marked-long : length marked ≡ length retired
+  pub retired-long : length retired ≤ longest-weighed
+  pub sizes-long : length sizes ≡ largest-room
 
 -- one word: what is named is retired and unmarked, and what was not retired before is fresh
 pub record OneRetired (retired marked named : ℕ) (r : Retired) : Type 0 where

@@ -1,4 +1,4 @@
-// What a SACK does to lent rows of words: bit p of a row is the packet number p after the row's first.
+// What a SACK names, and what it does to lent rows of words: bit p of a row is the packet number p after the row's first.
 ghost use mathlib.Core.Path.{_≡_};
 ghost use Prim.Native.Nat.{_+_, _*_, _%_, _≤_, _<_};
 ghost use lib.ListN.{length};
@@ -7,7 +7,10 @@ ghost use Rattle.lists.specs.Index.{weigh};
 ghost use Rattle.word.specs.Word.{bit-at, Bits};
 ghost use Rattle.row.specs.Row.{longest};
 ghost use Rattle.rules.specs.Numbers.{largest-room};
-ghost use Rattle.retire.specs.Rows.{ahead, bit-of-block, names, size-by, OneRetired, Retires, longest-weighed};
+ghost use Rattle.rules.specs.Sender.{Sender, unsent as unsent-of};
+ghost use Rattle.rules.specs.Retire.{names-unsent};
+ghost use Rattle.retire.specs.Rows.{ahead, bit-of-block, names, size-by, Alike, OneRetired, Retires};
+ghost use Rattle.retire.specs.Front.{named-by, Stands, Ready, Moves};
 use psn::HALF;
 use psn::Psn;
 use psn::TURN;
@@ -15,7 +18,7 @@ use rules::Block;
 use rules::LARGEST_ROOM;
 
 // The bits of a block that name unsent packet numbers: the block begins o after place + 1, and n are outstanding.
-pub fn unsent_bits(o: u32, n: u32) -> u64
+fn unsent_bits(o: u32, n: u32) -> u64
     ensures { λ r. ⌜ Bits r (λ j. ahead n ((o + j) % turn)) ⌝ }
 {
     if HALF <= n {
@@ -30,6 +33,32 @@ pub fn unsent_bits(o: u32, n: u32) -> u64
         return word::range(from, HALF - at);
     }
     word::range(TURN - at + n, 64)
+}
+
+// Whether a packet number is neither one of the n that are outstanding after the place nor behind place + 1.
+pub fn unsent(place: Psn, n: u32, psn: Psn) -> bool
+    ensures { λ r. ⌜ ((x : Sender) → Stands x (place .0) n → r ≡ unsent-of x (psn .0)) ⌝ }
+{
+    let i = place.after(1).distance(psn);
+    if i < n {
+        return false;
+    }
+    i < HALF
+}
+
+// Whether a SACK names an unsent packet number.
+pub fn names_unsent(place: Psn, n: u32, cack: Psn, block: Block) -> bool
+    ensures { λ r. ⌜ ((x : Sender) → Stands x (place .0) n → r ≡ names-unsent x (cack .0) block) ⌝ }
+{
+    let d = place.distance(cack);
+    if n < d {
+        if d < HALF {
+            return true;
+        }
+    }
+    let base = block.base;
+    let o = place.after(1).distance(base);
+    (block.bitmap & unsent_bits(o, n)) != 0
 }
 
 // A block's bits as they stand in the word that begins q after the block's base.
@@ -103,7 +132,7 @@ pub struct Sum {
 }
 
 // All that a SACK names is retired, word by word.
-pub fn retire(
+fn retire(
     retired: &mut [u64],
     marked: &mut [u64],
     sizes: &[u16],
@@ -111,8 +140,11 @@ pub fn retire(
     upto: u32,
     block: Block,
 ) -> Sum
-    requires { ⌜ (length (now marked) ≡ length (now retired)) × (length (now retired) ≤ longest-weighed) × (length (now sizes) ≡ largest-room) ⌝ }
-    ensures { λ r. ⌜ Retires (now (retired .entry)) (now (marked .entry)) (now (sizes .entry)) (first .0) (names (first .0) upto block) (now (retired .exit)) (now (marked .exit)) r ⌝ }
+    requires { ⌜ Alike (now retired) (now marked) (now sizes) ⌝ }
+    ensures { λ r. ⌜
+        Retires (now (retired .entry)) (now (marked .entry)) (now (sizes .entry)) (first .0) (names (first .0) upto block)
+        (now (retired .exit)) (now (marked .exit)) r
+        ⌝ }
 {
     let n = retired.len();
     let mut newly: u32 = 0;
@@ -128,4 +160,52 @@ pub fn retire(
         j += 1;
     }
     Sum { newly, bytes: sum }
+}
+
+// How many packets are newly retired, their bytes, and how far the place moves.
+pub struct Moved {
+    pub newly: u32,
+    pub bytes: u32,
+    pub by: u32,
+}
+
+// The rows begin at place + 1's own block of 64, and n are outstanding. All that a SACK names is retired, and where the place moves into
+// another block of 64, the words before that go.
+pub fn acknowledge(
+    retired: &mut [u64],
+    marked: &mut [u64],
+    sizes: &[u16],
+    place: Psn,
+    n: u32,
+    cack: Psn,
+    block: Block,
+) -> Moved
+    requires { ⌜ Ready (now retired) (now marked) (now sizes) (place .0) n ⌝ }
+    ensures { λ r. ⌜
+        Moves (now (retired .entry)) (now (marked .entry)) (now (sizes .entry)) (place .0) n (named-by (place .0) n (cack .0) block)
+        (now (retired .exit)) (now (marked .exit)) r
+        ⌝ }
+{
+    let s = (place.0 + 1) % 64;
+    let d = place.distance(cack);
+    let mut upto = s;
+    if d <= n {
+        upto = s + d;
+    }
+    let out = retire(
+        retired,
+        marked,
+        sizes,
+        place.after(TURN + 1 - s),
+        upto,
+        block,
+    );
+    let t = row::run(retired, s + n);
+    row::shed(retired, (t / 64) as usize);
+    row::shed(marked, (t / 64) as usize);
+    Moved {
+        newly: out.newly,
+        bytes: out.bytes,
+        by: t - s,
+    }
 }

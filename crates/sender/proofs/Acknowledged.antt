@@ -7,41 +7,37 @@ use Prim.Native.Nat.{ℕ, suc, _+_, _-_, _*_, _/_, _%_, _≤_, _<_}
 use native.Mathlib.Omega.{arith}
 use native.Mathlib.Decide.{decLt}
 use lib.Dec.{ltb, leb}
-use lib.ListN.{getD, drop}
-use borrow.Author.Tests.{lt-ltb, le-ltb, le-leb, lt-leb, ltb-true, not-false}
+use lib.ListN.{length, getD, drop}
+use borrow.Author.Tests.{lt-ltb, le-ltb, leb-true, lt-leb, ltb-true, not-true, not-false}
 use Rattle.psn.specs.declared.Psn.{Psn}
 use Rattle.psn.specs.Psn.{turn, half, after, distance}
 use Rattle.psn.proofs.Circle.{after-lt, after-after, after-turn, distance-after, ahead as ahead-by}
-use Rattle.lists.specs.Index.{total, weigh, First, table}
-use Rattle.word.specs.Word.{bit-at}
-use Rattle.lists.proofs.Index.{total-same, total-add, total-none, total-both, total-window, table-same, map-table, drop-table}
-use Rattle.row.proofs.Rows.{run-from, run-stops}
-use Rattle.row.specs.Row.{at, bits, is-clear, Becomes}
-use Rattle.rules.specs.Numbers.{psn, size-ok, largest-room, words}
+use Rattle.lists.specs.Index.{total, weigh, table}
 use Rattle.lists.specs.Lists.{lead, any}
-use Rattle.rules.specs.Sender.{Entry, size-held, held, unsent}
-use Rattle.rules.specs.Retire.{up-to, unsent-cack, unsent-bit, names-unsent, has-bit, named, retired, retire, newly, is-retired, settle, after-sack, report}
-use Rattle.rules.specs.Sender as rule
-use Rattle.rules.specs.declared.Block.{Block}
-use Rattle.rules.specs.declared.Answer.the-variants as answer
+use Rattle.lists.proofs.Index.{total-same, total-add, total-none, total-both, total-window, table-same, map-table, drop-table}
 use Rattle.lists.proofs.Joined.{and-true-each, or-false-each, never-true}
-use Rattle.retire.specs.Rows.{names, fresh, size-by, Retires}
-use Rattle.retire.specs.declared.Sum.{Sum}
-use Rattle.word.proofs.Compare.{leb-same}
-use Rattle.retire.proofs.Naming.{size-on}
-use Rattle.sender.specs.declared.Sender.{Sender}
-use Rattle.sender.specs.Record.{meaning, entry, offset, size-at, Started}
-use Rattle.lists.proofs.Index.{first-from}
 use Rattle.lists.proofs.Lists.{any-some}
 use Rattle.lists.proofs.Tables.{lead-table}
+use Rattle.word.specs.Word.{bit-at}
+use Rattle.word.proofs.Compare.{leb-same}
+use Rattle.row.specs.Row.{at, bits}
+use Rattle.rules.specs.Numbers.{psn, size-ok, largest-room, words}
+use Rattle.rules.specs.Sender.{Entry, size-held, held, unsent}
+use Rattle.rules.specs.Sender as rule
+use Rattle.rules.specs.Retire.{up-to, unsent-cack, unsent-bit, names-unsent, has-bit, named, retired, retire, newly, is-retired, settle, after-sack, report}
+use Rattle.rules.specs.declared.Block.{Block}
+use Rattle.rules.specs.declared.Answer.the-variants as answer
 use Rattle.rules.proofs.Entries.{retire-table, newly-table}
-use Rattle.sender.proofs.Entries.{same-entry, length-entries, held-total, few}
-use Rattle.sender.proofs.Judged.{index-is, unsent-is, unsent-past}
+use Rattle.retire.specs.Rows.{names, fresh, size-by}
+use Rattle.retire.specs.Front.{row-first, reach, named-by, retired-then, marked-then, front, Moves}
+use Rattle.retire.specs.declared.Moved.{Moved}
+use Rattle.retire.proofs.Naming.{size-on}
+use Rattle.retire.proofs.Judged.{is-past}
+use Rattle.sender.specs.declared.Sender.{Sender}
+use Rattle.sender.specs.Record.{meaning, entry, offset, size-at, Started}
+use Rattle.sender.proofs.Entries.{same-entry, length-entries, held-total, few, stands}
 
 -- ---- numbers: the rows begin at the packet number `row-first` of a place a
-abbrev pub row-first : ℕ → ℕ
-row-first a = after a (turn + 1 - (a + 1) % 64)
-
 way : (a i : ℕ) → turn + 1 - (a + 1) % 64 + ((a + 1) % 64 + i) ≡ 1 + i + turn
 way a i = omega arith
 
@@ -84,39 +80,38 @@ sizes-good-of : (x : Sender) → Started x → (i : ℕ) → i < x .outstanding 
 unfolding entry
 sizes-good-of x h i l = h .sizes-good i l
 
--- ---- how far cack reaches, d being its distance from the place
-module _ (x : Sender) (cack d : ℕ) (d-is : d ≡ distance (x .place .0) cack) where
-  up-to-is : up-to (meaning x) cack ≡ cond (leb d (x .outstanding)) d 0
-  unfolding up-to meaning
-  up-to-is = ap₂ (λ (e n : ℕ). cond (leb e n) e 0) (sym d-is) (length-entries x)
+-- ---- how far cack reaches
+pub reach-is : (x : Sender) (cack : ℕ) → reach (x .place .0) (x .outstanding) cack ≡ offset x + up-to (meaning x) cack
+unfolding up-to meaning
+reach-is x cack = let d = distance (x .place .0) cack in ap (λ (n : ℕ). offset x + cond (leb d n) d 0) (sym (length-entries x))
 
-  pub reaches : d ≤ x .outstanding → up-to (meaning x) cack ≡ d
-  reaches l = up-to-is ∙ ap (λ (t : Bool). cond t d 0) (le-leb d (x .outstanding) l)
-
-  pub reaches-none : x .outstanding < d → up-to (meaning x) cack ≡ 0
-  reaches-none l = up-to-is ∙ ap (λ (t : Bool). cond t d 0) (lt-leb d (x .outstanding) l)
-
-pub up-to-le : (x : Sender) (cack : ℕ) → up-to (meaning x) cack ≤ x .outstanding
-up-to-le x cack = go (decLt (x .outstanding) (distance (x .place .0) cack))
+up-to-le : (x : Sender) (cack : ℕ) → up-to (meaning x) cack ≤ x .outstanding
+unfolding up-to
+up-to-le x cack = by (leb d n) refl
   where
-    go : Dec (x .outstanding < distance (x .place .0) cack) → up-to (meaning x) cack ≤ x .outstanding
-    go (yes l) = omega (arith, reaches-none x cack _ refl l)
-    go (no l) = omega (arith, reaches x cack _ refl (omega arith))
+    d : ℕ
+    d = distance (meaning x .place) cack
 
--- a started record whose rows such a SACK has retired up to bit u and by its block
-pub record RowsRetired (x : Sender) (cack : ℕ) (b : Block) (u : ℕ) (R M : List ℕ) (out : Sum) : Type 0 where
+    n : ℕ
+    n = length (meaning x .entries)
+
+    by : (b : Bool) → leb d n ≡ b → cond (leb d n) d 0 ≤ x .outstanding
+    by true e = rw e (omega (arith, leb-true d n e, length-entries x))
+    by false e = rw e (omega arith)
+
+-- a started record whose rows such a SACK has left so
+pub record RowsRetired (x : Sender) (cack : ℕ) (b : Block) (R″ M″ : List ℕ) (out : Moved) : Type 0 where
   pub started : Started x
   pub none-unsent : names-unsent (meaning x) cack b ≡ false
-  pub reach : u ≡ offset x + up-to (meaning x) cack
-  pub rows : Retires (x .retired) (x .marked) (x .sizes) (row-first (x .place .0)) (names (row-first (x .place .0)) u b) R M out
+  pub rows : Moves (x .retired) (x .marked) (x .sizes) (x .place .0) (x .outstanding) (named-by (x .place .0) (x .outstanding) cack b) R″ M″ out
 
-module _ (x : Sender) (cack : ℕ) (b : Block) (u : ℕ) (R M : List ℕ) (out : Sum) (all : RowsRetired x cack b u R M out) where
+module _ (x : Sender) (cack : ℕ) (b : Block) (R″ M″ : List ℕ) (out : Moved) (all : RowsRetired x cack b R″ M″ out) where
   h : Started x
   h = all .started
 
   -- ---- what is named: among the outstanding, as the rule says
   abbrev f : ℕ → Bool
-  f = names (row-first (x .place .0)) u b
+  f = named-by (x .place .0) (x .outstanding) cack b
 
   abbrev g : ℕ → Bool
   g = named (meaning x) cack b
@@ -126,15 +121,15 @@ module _ (x : Sender) (cack : ℕ) (b : Block) (u : ℕ) (R M : List ℕ) (out :
   named-in i =
       let t = up-to (meaning x) cack in
       ap₂ (λ (p q : Bool). p || q)
-      (ap (ltb (offset x + i)) (all .reach) ∙ leb-same (suc (offset x + i)) (offset x + t) (suc i) t (λ l. omega arith) (λ l. omega arith))
+      (ap (ltb (offset x + i)) (reach-is x cack) ∙ leb-same (suc (offset x + i)) (offset x + t) (suc i) t (λ l. omega arith) (λ l. omega arith))
       (ap (has-bit b) (row-on (x .place .0) i))
 
   -- past them, none
   bit-unsent : (i : ℕ) → x .outstanding ≤ i → i < half → unsent (meaning x) (after (x .place .0) (1 + i)) ≡ true
   bit-unsent i l m =
       let a = x .place .0 in
-      let e : i ≡ distance (after a 1) (after a (1 + i)) = sym (ahead-by a 1 (1 + i) (omega arith) (omega arith) ∙ omega arith) in
-      unsent-is x (after a (1 + i)) i (e ∙ sym (index-is x (after a (1 + i)))) ∙ unsent-past x i l ∙ ap not (lt-leb half i m)
+      let e : distance (after a 1) (after a (1 + i)) ≡ i = ahead-by a 1 (1 + i) (omega arith) (omega arith) ∙ omega arith in
+      is-past (meaning x) a (x .outstanding) (stands x) (after a (1 + i)) (omega (arith, e)) ∙ ap (λ (j : ℕ). not (leb half j)) e ∙ ap not (lt-leb half i m)
 
   no-unsent-bit : any 64 (λ j. bit-at (b .bitmap) j && unsent (meaning x) (after (b .base .0) j)) ≡ false
   unfolding names-unsent unsent-bit
@@ -162,52 +157,51 @@ module _ (x : Sender) (cack : ℕ) (b : Block) (u : ℕ) (R M : List ℕ) (out :
   named-past p l m =
       let i = p - offset x in
       let p-is : p ≡ offset x + i = omega arith in
-      ap₂ (λ (s t : Bool). s || t) (le-ltb p u (omega (arith, all .reach, up-to-le x cack)))
+      ap₂ (λ (s t : Bool). s || t) (le-ltb p (reach (x .place .0) (x .outstanding) cack) (omega (arith, reach-is x cack, up-to-le x cack)))
       (ap (has-bit b) (ap (after (row-first (x .place .0))) p-is ∙ row-on (x .place .0) i) ∙ no-bit-past i (omega arith) (omega arith))
 
   -- ---- the rows
   room-in : offset x + x .outstanding < 64 * words
   room-in = omega (arith, few x h)
 
-  R-at : (p : ℕ) → at R p ≡ (at (x .retired) p || f p && ltb p (bits (x .retired)))
-  R-at = all .rows .retired-are .bits-are
+  -- the rows once they are retired, and the place not moved yet
+  abbrev R : ℕ → Bool
+  R = retired-then (x .retired) f
 
-  M-at : (p : ℕ) → at M p ≡ (at (x .marked) p && not (f p))
-  M-at = all .rows .marked-are .bits-are
+  abbrev M : ℕ → Bool
+  M = marked-then (x .marked) f
 
-  R-before : (p : ℕ) → p < offset x → at R p ≡ true
-  R-before p l = R-at p ∙ ap (λ (t : Bool). t || f p && ltb p (bits (x .retired))) (h .before p l)
+  R-before : (p : ℕ) → p < offset x → R p ≡ true
+  R-before p l = ap (λ (t : Bool). t || f p && ltb p (bits (x .retired))) (h .before p l)
 
-  R-in : (i : ℕ) → i < x .outstanding → at R (offset x + i) ≡ (at (x .retired) (offset x + i) || g i)
+  R-in : (i : ℕ) → i < x .outstanding → R (offset x + i) ≡ (at (x .retired) (offset x + i) || g i)
   R-in i l =
       let p = offset x + i in
-      R-at p
-      ∙ ap (λ (t : Bool). at (x .retired) p || t)
+      ap (λ (t : Bool). at (x .retired) p || t)
       (ap₂ (λ (s t : Bool). s && t) (named-in i) (lt-ltb p (bits (x .retired)) (omega (arith, room-in, h .retired-long))) ∙ and-true (g i))
 
-  R-unsent : (p : ℕ) → offset x + x .outstanding ≤ p → at R p ≡ false
-  R-unsent p l = R-at p ∙ ap₂ (λ (s t : Bool). s || t) (h .unsent p l) (go (decLt p (bits (x .retired))))
+  R-unsent : (p : ℕ) → offset x + x .outstanding ≤ p → R p ≡ false
+  R-unsent p l = ap₂ (λ (s t : Bool). s || t) (h .unsent p l) (go (decLt p (bits (x .retired))))
     where
       go : Dec (p < bits (x .retired)) → (f p && ltb p (bits (x .retired))) ≡ false
       go (yes m) = ap (λ (t : Bool). t && ltb p (bits (x .retired))) (named-past p l (omega (arith, h .retired-long)))
       go (no m) = ap (λ (t : Bool). f p && t) (le-ltb p (bits (x .retired)) (omega arith)) ∙ and-false (f p)
 
-  M-unsent : (p : ℕ) → offset x + x .outstanding ≤ p → at M p ≡ false
-  M-unsent p l = M-at p ∙ ap (λ (t : Bool). t && not (f p)) (h .mark-unsent p l)
+  M-unsent : (p : ℕ) → offset x + x .outstanding ≤ p → M p ≡ false
+  M-unsent p l = ap (λ (t : Bool). t && not (f p)) (h .mark-unsent p l)
 
-  not-both-in : (p : ℕ) → (at R p && at M p) ≡ false
+  not-both-in : (p : ℕ) → (R p && M p) ≡ false
   not-both-in p =
-      ap₂ (λ (s t : Bool). s && t) (R-at p) (M-at p)
-      ∙ not-both-after (at (x .retired) p) (at (x .marked) p) (f p) (ltb p (bits (x .retired))) (h .not-both p)
+      not-both-after (at (x .retired) p) (at (x .marked) p) (f p) (ltb p (bits (x .retired))) (h .not-both p)
 
   -- ---- the entries between: retired, and the place not moved yet
   abbrev mid : ℕ → Entry
-  mid i = record { size = getD (x .sizes) (size-at x i) 0; retired = at R (offset x + i); marked = at M (offset x + i) }
+  mid i = record { size = getD (x .sizes) (size-at x i) 0; retired = R (offset x + i); marked = M (offset x + i) }
 
   mid-is : (i : ℕ) → i < x .outstanding → mid i ≡ cond (g i) (retired (entry x i)) (entry x i)
   unfolding entry
   mid-is i l =
-      same-entry refl (R-in i l) (M-at (offset x + i) ∙ ap (λ (t : Bool). at (x .marked) (offset x + i) && not t) (named-in i))
+      same-entry refl (R-in i l) (ap (λ (t : Bool). at (x .marked) (offset x + i) && not t) (named-in i))
       ∙ both (getD (x .sizes) (size-at x i) 0) (at (x .retired) (offset x + i)) (at (x .marked) (offset x + i)) (g i)
     where
       both : (s : ℕ) (r m t : Bool) → _≡_ {A = Entry} (record { size = s; retired = r || t; marked = m && not t })
@@ -253,101 +247,112 @@ module _ (x : Sender) (cack : ℕ) (b : Block) (u : ℕ) (R M : List ℕ) (out :
   pub bytes-le : out .bytes ≤ x .held
   bytes-le = omega (arith, bytes-split)
 
-  -- ---- the place moves over the run of retired
-  module _ (t : ℕ) (run : First (is-clear R) (offset x + x .outstanding) t) where
-    pub past-offset : offset x ≤ t
-    past-offset = run-from R (offset x) (offset x + x .outstanding) t run (omega arith) R-before
+  -- ---- the place moves over the run of retired, m at the front
+  abbrev m : ℕ
+  m = out .by
 
-    R-run : (p : ℕ) → p < t → at R p ≡ true
-    R-run p l = not-false (at R p) (run .none p l)
+  R-run : (i : ℕ) → i < m → R (offset x + i) ≡ true
+  R-run i l = not-false (R (offset x + i)) (all .rows .moved .none i l)
 
-    R-stop : at R t ≡ false
-    R-stop = run-stops R (offset x + x .outstanding) t run R-unsent
+  R-up : (p : ℕ) → p < offset x + m → R p ≡ true
+  R-up p l = go (decLt p (offset x))
+    where
+      go : Dec (p < offset x) → R p ≡ true
+      go (yes k) = R-before p k
+      go (no k) = let p-is : p ≡ offset x + (p - offset x) = omega arith in ap R p-is ∙ R-run (p - offset x) (omega arith)
 
-    lead-is : lead (map is-retired (table (x .outstanding) mid)) ≡ t - offset x
-    lead-is =
-        ap lead (map-table is-retired (x .outstanding) mid)
-        ∙ lead-table (x .outstanding) (λ i. at R (offset x + i)) (t - offset x) (first-from (is-clear R) (offset x) (x .outstanding) t run past-offset)
+  R-stop : R (offset x + m) ≡ false
+  R-stop = go (decLt m (x .outstanding))
+    where
+      go : Dec (m < x .outstanding) → R (offset x + m) ≡ false
+      go (yes l) = not-true (R (offset x + m)) (all .rows .moved .here l)
+      go (no l) = R-unsent (offset x + m) (omega arith)
 
-    -- ---- whole words go
-    module _ (R″ M″ : List ℕ) (R-shed : Becomes R R″ (λ p. at R (64 * (t / 64) + p))) (M-shed : Becomes M M″ (λ p. at M (64 * (t / 64) + p)))
-        (now : Psn) (now-is : now .0 ≡ after (x .place .0) (t - offset x)) where
-      abbrev pub acknowledged : Sender
-      acknowledged = record {
-        room = x .room;
-        place = now;
-        outstanding = x .outstanding - (t - offset x);
-        held = x .held - out .bytes;
-        sizes = x .sizes;
-        retired = R″;
-        marked = M″;
-      }
+  lead-is : lead (map is-retired (table (x .outstanding) mid)) ≡ m
+  lead-is = ap lead (map-table is-retired (x .outstanding) mid) ∙ lead-table (x .outstanding) (λ i. R (offset x + i)) m (all .rows .moved)
 
-      offset-is : offset acknowledged ≡ t % 64
-      offset-is = ap (λ (n : ℕ). (n + 1) % 64) now-is ∙ offset-on (x .place .0) (t - offset x) ∙ back (x .place .0) t past-offset
-        where
-          back : (a t : ℕ) → (a + 1) % 64 ≤ t → (a + 1 + (t - (a + 1) % 64)) % 64 ≡ t % 64
-          back a t l = omega arith
+  -- ---- the record after
+  module _ (now : Psn) (now-is : now .0 ≡ after (x .place .0) m) where
+    abbrev pub acknowledged : Sender
+    acknowledged = record {
+      room = x .room;
+      place = now;
+      outstanding = x .outstanding - m;
+      held = x .held - out .bytes;
+      sizes = x .sizes;
+      retired = R″;
+      marked = M″;
+    }
 
-      bit-is : (i : ℕ) → 64 * (t / 64) + (offset acknowledged + i) ≡ offset x + (t - offset x + i)
-      bit-is i = omega (arith, offset-is, past-offset)
+    -- the first bit that is left
+    abbrev q : ℕ
+    q = front (x .place .0) m
 
-      entry-is : (i : ℕ) → entry acknowledged i ≡ mid (t - offset x + i)
-      unfolding entry
-      entry-is i =
-          same-entry (ap (λ (n : ℕ). getD (x .sizes) n 0) (ap (λ (n : ℕ). (n + 1 + i) % largest-room) now-is ∙ size-at-on (x .place .0) (t - offset x) i))
-          (R-shed .bits-are (offset acknowledged + i) ∙ ap (at R) (bit-is i)) (M-shed .bits-are (offset acknowledged + i) ∙ ap (at M) (bit-is i))
+    offset-is : offset acknowledged ≡ (offset x + m) % 64
+    offset-is = ap (λ (n : ℕ). (n + 1) % 64) now-is ∙ offset-on (x .place .0) m ∙ back (x .place .0) m
+      where
+        back : (a k : ℕ) → (a + 1 + k) % 64 ≡ ((a + 1) % 64 + k) % 64
+        back a k = omega arith
 
-      pub acknowledged-means : meaning acknowledged ≡ after-sack (meaning x) cack b
-      unfolding meaning after-sack settle
-      acknowledged-means =
-          let m = t - offset x in
-          let moves : lead (map is-retired (retire g (meaning x .entries))) ≡ m = ap (λ (l : List Entry). lead (map is-retired l)) retire-is ∙ lead-is in
-          λ j. record {
-            room = x .room;
-            place = (now-is ∙ ap (after (x .place .0)) (sym moves)) j;
-            entries = (table-same (x .outstanding - m) (entry acknowledged) (λ i. mid (m + i)) (λ i p. entry-is i) ∙ sym (drop-table m (x .outstanding) mid)
-                ∙ sym (ap₂ (λ (n : ℕ) (l : List Entry). drop n l) moves retire-is)) j;
-          }
+    bit-is : (i : ℕ) → q + (offset acknowledged + i) ≡ offset x + (m + i)
+    bit-is i = omega (arith, offset-is)
 
-      held-is : x .held - out .bytes ≡ total (x .outstanding - (t - offset x)) (λ i. size-held (entry acknowledged i))
-      held-is =
-          let m = t - offset x in
-          let n = x .outstanding in
-          let w : ℕ → ℕ = λ i. size-held (mid i) in
-          let n-is : m + (n - m) ≡ n = omega (arith, run .within) in
-          let front : total m w ≡ 0 = total-none m w (λ i l. retired-holds (mid i) (R-run (offset x + i) (omega arith))) in
-          let rest : total (n - m) (λ i. w (m + i)) ≡ total (n - m) (λ i. size-held (entry acknowledged i)) =
-          total-same (n - m) _ _ (λ i l. ap size-held (sym (entry-is i))) in
-          let parts : total n w ≡ total m w + total (n - m) (λ i. w (m + i)) = ap (λ (j : ℕ). total j w) (sym n-is) ∙ total-add m (n - m) w in
-          omega (arith, front, rest, parts, bytes-split)
+    entry-is : (i : ℕ) → entry acknowledged i ≡ mid (m + i)
+    unfolding entry
+    entry-is i =
+        same-entry (ap (λ (n : ℕ). getD (x .sizes) n 0) (ap (λ (n : ℕ). (n + 1 + i) % largest-room) now-is ∙ size-at-on (x .place .0) m i))
+        (all .rows .retired-are .bits-are (offset acknowledged + i) ∙ ap R (bit-is i))
+        (all .rows .marked-are .bits-are (offset acknowledged + i) ∙ ap M (bit-is i))
 
-      pub acknowledged-started : Started acknowledged
-      acknowledged-started = record {
-        room-good = h .room-good;
-        place-low = subst (λ (n : ℕ). n < turn) (sym now-is) (after-lt (x .place .0) (t - offset x));
-        room-left = omega (arith, h .room-left);
-        sizes-long = h .sizes-long;
-        retired-long = R-shed .long ∙ all .rows .retired-are .long ∙ h .retired-long;
-        marked-long = M-shed .long ∙ all .rows .marked-are .long ∙ h .marked-long;
-        before = λ p l. R-shed .bits-are p ∙ R-run (64 * (t / 64) + p) (omega (arith, offset-is));
-        first-open = R-shed .bits-are (offset acknowledged) ∙ ap (at R) open-is ∙ R-stop;
-        unsent = λ p l. R-shed .bits-are p ∙ R-unsent (64 * (t / 64) + p) (omega (arith, offset-is, past-offset, run .within));
-        not-both = λ p. ap₂ (λ (s u : Bool). s && u) (R-shed .bits-are p) (M-shed .bits-are p) ∙ not-both-in (64 * (t / 64) + p);
-        mark-unsent = λ p l. M-shed .bits-are p ∙ M-unsent (64 * (t / 64) + p) (omega (arith, offset-is, past-offset, run .within));
-        sizes-good = λ i l. ap (λ (e : Entry). size-ok (e .size)) (entry-is i) ∙ sizes-good-of x h (t - offset x + i) (omega (arith, run .within));
-        held-is = held-is;
-      }
-        where
-          open-is : 64 * (t / 64) + offset acknowledged ≡ t
-          open-is = omega (arith, offset-is)
+    pub acknowledged-means : meaning acknowledged ≡ after-sack (meaning x) cack b
+    unfolding meaning after-sack settle
+    acknowledged-means =
+        let moves : lead (map is-retired (retire g (meaning x .entries))) ≡ m = ap (λ (l : List Entry). lead (map is-retired l)) retire-is ∙ lead-is in
+        λ j. record {
+          room = x .room;
+          place = (now-is ∙ ap (after (x .place .0)) (sym moves)) j;
+          entries = (table-same (x .outstanding - m) (entry acknowledged) (λ i. mid (m + i)) (λ i p. entry-is i) ∙ sym (drop-table m (x .outstanding) mid)
+              ∙ sym (ap₂ (λ (n : ℕ) (l : List Entry). drop n l) moves retire-is)) j;
+        }
 
-      place-is : now .0 ≡ after-sack (meaning x) cack b .place
-      unfolding meaning
-      place-is = ap (λ (y : rule.Sender). y .place) acknowledged-means
+    held-is : x .held - out .bytes ≡ total (x .outstanding - m) (λ i. size-held (entry acknowledged i))
+    held-is =
+        let n = x .outstanding in
+        let w : ℕ → ℕ = λ i. size-held (mid i) in
+        let n-is : m + (n - m) ≡ n = omega (arith, all .rows .moved .within) in
+        let front : total m w ≡ 0 = total-none m w (λ i l. retired-holds (mid i) (R-run i l)) in
+        let rest : total (n - m) (λ i. w (m + i)) ≡ total (n - m) (λ i. size-held (entry acknowledged i)) =
+        total-same (n - m) _ _ (λ i l. ap size-held (sym (entry-is i))) in
+        let parts : total n w ≡ total m w + total (n - m) (λ i. w (m + i)) = ap (λ (j : ℕ). total j w) (sym n-is) ∙ total-add m (n - m) w in
+        omega (arith, front, rest, parts, bytes-split)
 
-      pub acknowledged-reports : answer.Retired (out .newly) now (x .held - out .bytes) ≡ report (meaning x) cack b
-      unfolding report
-      acknowledged-reports =
-          let held-after : x .held - out .bytes ≡ held (after-sack (meaning x) cack b) = held-is ∙ sym (held-total acknowledged) ∙ ap held acknowledged-means in
-          λ i. answer.Retired (newly-is i) (psn (place-is i)) (held-after i)
+    pub acknowledged-started : Started acknowledged
+    acknowledged-started = record {
+      room-good = h .room-good;
+      place-low = subst (λ (n : ℕ). n < turn) (sym now-is) (after-lt (x .place .0) m);
+      room-left = omega (arith, h .room-left);
+      sizes-long = h .sizes-long;
+      retired-long = all .rows .retired-are .long ∙ h .retired-long;
+      marked-long = all .rows .marked-are .long ∙ h .marked-long;
+      before = λ p l. all .rows .retired-are .bits-are p ∙ R-up (q + p) (omega (arith, offset-is));
+      first-open = all .rows .retired-are .bits-are (offset acknowledged) ∙ ap R open-is ∙ R-stop;
+      unsent = λ p l. all .rows .retired-are .bits-are p ∙ R-unsent (q + p) (omega (arith, offset-is, all .rows .moved .within));
+      not-both = λ p.
+          ap₂ (λ (s u : Bool). s && u) (all .rows .retired-are .bits-are p) (all .rows .marked-are .bits-are p) ∙ not-both-in (q + p);
+      mark-unsent = λ p l. all .rows .marked-are .bits-are p ∙ M-unsent (q + p) (omega (arith, offset-is, all .rows .moved .within));
+      sizes-good = λ i l. ap (λ (e : Entry). size-ok (e .size)) (entry-is i) ∙ sizes-good-of x h (m + i) (omega (arith, all .rows .moved .within));
+      held-is = held-is;
+    }
+      where
+        open-is : q + offset acknowledged ≡ offset x + m
+        open-is = omega (arith, offset-is)
+
+    place-is : now .0 ≡ after-sack (meaning x) cack b .place
+    unfolding meaning
+    place-is = ap (λ (y : rule.Sender). y .place) acknowledged-means
+
+    pub acknowledged-reports : answer.Retired (out .newly) now (x .held - out .bytes) ≡ report (meaning x) cack b
+    unfolding report
+    acknowledged-reports =
+        let held-after : x .held - out .bytes ≡ held (after-sack (meaning x) cack b) = held-is ∙ sym (held-total acknowledged) ∙ ap held acknowledged-means in
+        λ i. answer.Retired (newly-is i) (psn (place-is i)) (held-after i)

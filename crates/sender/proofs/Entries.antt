@@ -1,6 +1,6 @@
 -- What every record has, from its fields: its entries are as many as it says, few and of small sizes where it was started, and a record in use
 -- was started. Assumes nothing.
-use mathlib.Core.Path.{_≡_, ap, _∙_}
+use mathlib.Core.Path.{_≡_, refl, ap, _∙_}
 use mathlib.Core.Bool.{Bool, true, false, cond}
 use mathlib.Core.Logic.{⊎-elim}
 use Prim.Native.Nat.{ℕ, zero, suc, _+_, _*_, _≤_, _<_}
@@ -15,6 +15,7 @@ use Rattle.lists.specs.Lists.{sum}
 use Rattle.rules.specs.Sender.{Entry, outstanding, unused, next, size-held, held}
 use Rattle.lists.proofs.Joined.{and-true-each}
 use Rattle.rules.proofs.Allowed.{room-numbers}
+use Rattle.retire.specs.Front.{Stands}
 use Rattle.sender.specs.declared.Sender.{Sender}
 use Rattle.sender.specs.Record.{meaning, entry, Started, Sound}
 use Rattle.lists.proofs.Tables.{sum-table}
@@ -26,6 +27,11 @@ same-entry p q u = λ i. record { size = p i; retired = q i; marked = u i }
 pub length-entries : (x : Sender) → length (meaning x .entries) ≡ x .outstanding
 unfolding meaning
 length-entries x = length-table (x .outstanding) (entry x)
+
+-- what the crate below asks of a record of the rules
+pub stands : (x : Sender) → Stands (meaning x) (x .place .0) (x .outstanding)
+unfolding meaning
+stands x = record { place-is = refl; outstanding-is = length-entries x }
 
 pub next-is : (x : Sender) → next (meaning x) ≡ after (x .place .0) (1 + x .outstanding)
 unfolding next meaning

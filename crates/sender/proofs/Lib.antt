@@ -3,7 +3,6 @@ pub mod Entries
 pub mod Starting
 pub mod Sent
 pub mod Marked
-pub mod Judged
 pub mod Resent
 pub mod Acknowledged
 pub mod Settled

@@ -5,10 +5,11 @@ use mathlib.Core.List.{List, map}
 use mathlib.Core.Logic.{inr}
 use Prim.Native.Nat.{ℕ, _+_, _≤_, _<_}
 use native.Mathlib.Omega.{arith}
-use native.Mathlib.Decide.{ℕ-discrete}
+use native.Mathlib.Decide.{ℕ-discrete, decLt}
 use lib.Dec.{eqb, ltb}
 use lib.ListN.{length, getD, List·getD-eq-default}
-use borrow.Author.Tests.{lt-ltb, le-leb, lt-leb, eq-eqb, ne-eqb, not-true}
+use borrow.Author.Tests.{lt-ltb, le-ltb, ltb-true, le-leb, lt-leb, eq-eqb, ne-eqb, not-true}
+use Rattle.psn.specs.Psn.{after, distance}
 use Rattle.lists.specs.Index.{table}
 use Rattle.lists.specs.Lists.{update}
 use Rattle.lists.proofs.Index.{length-table, getD-table, map-table, table-same}
@@ -16,20 +17,19 @@ use Rattle.lists.proofs.Joined.{and-true-each}
 use Rattle.lists.proofs.Tables.{update-table}
 use Rattle.row.specs.Row.{at, bits, Row, Becomes, without-bit}
 use Rattle.marks.specs.Marks as marks
-use Rattle.promise.specs.Outcome.{Outcome, Refused, Done, left, on-paper}
+use Rattle.promise.specs.Outcome.{Done}
+use Rattle.promise.proofs.Meeting.{does}
 use Rattle.rules.specs.Numbers.{words}
-use Rattle.rules.specs.Paper.{paper, answered}
 use Rattle.rules.specs.Sender.{size-held, index, with-entries}
 use Rattle.rules.specs.Sender as rule
 use Rattle.rules.specs.Marks.{with-mark, markable, mark, nacked}
 use Rattle.rules.specs.declared.Answer.{Answer}
 use Rattle.rules.specs.declared.Answer.the-variants as answer
-use Rattle.rules.proofs.Settled.{answered-paper}
+use Rattle.retire.proofs.Judged.{index-is}
 use Rattle.sender.specs.declared.Sender.{Sender}
 use Rattle.sender.specs.declared.Stepped.{Stepped}
-use Rattle.sender.specs.declared.Marking.{Marking}
 use Rattle.sender.specs.Record.{meaning, entry, offset, with-marked, Started, Steps, Marks}
-use Rattle.sender.proofs.Entries.{same-entry, few}
+use Rattle.sender.proofs.Entries.{same-entry, few, stands}
 
 -- ---- the record with another row of marks
 module _ (x : Sender) (h : Started x) (ws : List ℕ) (long : length ws ≡ words) (not-both : (p : ℕ) → (at (x .retired) p && at ws p) ≡ false)
@@ -64,16 +64,16 @@ clear-puts ws ws′ p h k = h .bits-are k ∙ go (ℕ-discrete k p)
     go (no e) = rw (ne-eqb k p e) (and-true (at ws k))
 
 -- a mark set where it may be, and else the bits that were there
-module _ (retired ws : List ℕ) (p : ℕ) (ws′ : List ℕ) (n : ℕ) (h : marks.Marks retired ws p ws′ n) where
-  marked-puts : p < bits ws → marks.markable retired ws p ≡ true → Puts true p ws ws′
-  marked-puts l e k = h .marked-are .bits-are k ∙ ap (λ (b : Bool). at ws k || eqb k p && b && ltb k (bits ws)) e ∙ go (ℕ-discrete k p)
+module _ (ws : List ℕ) (p : ℕ) (may : Bool) (ws′ : List ℕ) (h : Becomes ws ws′ (λ k. at ws k || eqb k p && may && ltb k (bits ws))) where
+  marked-puts : p < bits ws → may ≡ true → Puts true p ws ws′
+  marked-puts l e k = h .bits-are k ∙ ap (λ (b : Bool). at ws k || eqb k p && b && ltb k (bits ws)) e ∙ go (ℕ-discrete k p)
     where
       go : Dec (k ≡ p) → (at ws k || eqb k p && true && ltb k (bits ws)) ≡ cond (eqb k p) true (at ws k)
       go (yes q) = rw (eq-eqb k p q, lt-ltb k (bits ws) (omega arith)) (or-true (at ws k))
       go (no q) = rw (ne-eqb k p q) (or-false (at ws k))
 
-  marked-keeps : marks.markable retired ws p ≡ false → Row ws′ (at ws)
-  marked-keeps e k = h .marked-are .bits-are k ∙ ap (λ (b : Bool). at ws k || eqb k p && b && ltb k (bits ws)) e ∙ none (eqb k p)
+  marked-keeps : may ≡ false → Row ws′ (at ws)
+  marked-keeps e k = h .bits-are k ∙ ap (λ (b : Bool). at ws k || eqb k p && b && ltb k (bits ws)) e ∙ none (eqb k p)
     where
       none : (t : Bool) → (at ws k || t && false && ltb k (bits ws)) ≡ at ws k
       none true = or-false (at ws k)
@@ -126,90 +126,77 @@ module _ (x : Sender) (h : Started x) (ws : List ℕ) (long : length ws ≡ word
   same-started =
       remarked-started x h ws long (λ p. ap (λ (t : Bool). at (x .retired) p && t) (same p) ∙ h .not-both p) (λ p m. same p ∙ h .mark-unsent p m)
 
--- ---- NACK and timer, at the index i of packet number p
-module _ (x : Sender) (h : Started x) (p i : ℕ) (is : i ≡ index (meaning x) p) where
+-- ---- NACK and timer, for packet number p
+module _ (x : Sender) (h : Started x) (p : ℕ) where
+  abbrev i : ℕ
+  i = distance (after (x .place .0) 1) p
+
   abbrev may-mark : Bool
   may-mark = getD (map markable (meaning x .entries)) (index (meaning x) p) false
 
-  may-is : may-mark ≡ getD (table (x .outstanding) (λ j. markable (entry x j))) i false
-  unfolding meaning
-  may-is = ap₂ (λ (l : List Bool) (j : ℕ). getD l j false) (map-table markable (x .outstanding) (entry x)) (sym is)
+  abbrev markable-row : Bool
+  markable-row = marks.markable-psn (x .retired) (x .marked) (x .place .0) (x .outstanding) p
 
-  -- behind place + 1 nothing becomes marked
-  pub mark-past : x .outstanding ≤ i → Marks x p (record { newly = 0; «record» = x })
-  unfolding mark left answered
-  mark-past l =
-      let t : List Bool = table (x .outstanding) (λ j. markable (entry x j)) in
-      let none : may-mark ≡ false =
-      may-is ∙ List·getD-eq-default t false (omega (arith, length-table (x .outstanding) (λ j. markable (entry x j)))) in
-      record { started = h; told = λ tell. rw none; left-is = λ tell. rw none }
+  -- the rule's test and the rows'
+  may-is : may-mark ≡ markable-row
+  unfolding meaning entry
+  may-is =
+      ap₂ (λ (l : List Bool) (j : ℕ). getD l j false) (map-table markable (x .outstanding) (entry x)) (index-is (meaning x) _ _ (stands x) p)
+      ∙ go (decLt i (x .outstanding))
+    where
+      go : Dec (i < x .outstanding) → getD (table (x .outstanding) (λ j. markable (entry x j))) i false ≡ markable-row
+      go (yes l) = rw (lt-ltb i (x .outstanding) l) (getD-table (x .outstanding) (λ j. markable (entry x j)) i false l)
+      go (no l) =
+          let t : List Bool = table (x .outstanding) (λ j. markable (entry x j)) in
+          rw (le-ltb i (x .outstanding) (omega arith))
+          (List·getD-eq-default t false (omega (arith, length-table (x .outstanding) (λ j. markable (entry x j)))))
 
-  -- among the outstanding, as the rows say
-  module _ (l : i < x .outstanding) (ws : List ℕ) (n : ℕ) (m : marks.Marks (x .retired) (x .marked) (offset x + i) ws n) where
-    abbrev markable-here : Bool
-    markable-here = marks.markable (x .retired) (x .marked) (offset x + i)
-
-    may-in : may-mark ≡ markable-here
-    unfolding entry
-    may-in = may-is ∙ getD-table (x .outstanding) (λ j. markable (entry x j)) i false l
-
+  module _ (ws : List ℕ) (n : ℕ) (rows : marks.MarksPsn (x .retired) (x .marked) (x .place .0) (x .outstanding) p ws n) where
     long : length ws ≡ words
-    long = m .marked-are .long ∙ h .marked-long
+    long = rows .marked-are .long ∙ h .marked-long
 
-    newly-in : (b : Bool) → markable-here ≡ b → n ≡ cond b 1 0
-    newly-in b e = m .newly-is ∙ ap (λ (t : Bool). cond t 1 0) e
+    newly-in : (tell : ℕ → Answer) (b : Bool) → markable-row ≡ b → tell n ≡ tell (cond b 1 0)
+    newly-in tell b e = ap tell (rows .newly-is ∙ ap (λ (t : Bool). cond t 1 0) e)
 
-    pub mark-in : (y : Sender) → y ≡ with-marked x ws → Marks x p (record { newly = n; «record» = y })
-    unfolding mark left answered
-    mark-in y y-is = by markable-here refl
+    -- the rule marks, and the bit is set
+    set-steps : markable-row ≡ true → Marks x p (record { newly = n; «record» = with-marked x ws })
+    unfolding mark
+    set-steps e =
+        let q = offset x + i in
+        let each = and-true-each (ltb i (x .outstanding)) (marks.markable (x .retired) (x .marked) q) e in
+        let l = ltb-true i (x .outstanding) (each .0) in
+        let open-there : at (x .retired) q ≡ false =
+        not-true (at (x .retired) q) (and-true-each (not (at (x .retired) q)) (not (at (x .marked) q)) (each .1) .0) in
+        let may : (at (x .retired) q && true) ≡ false = ap (λ (t : Bool). t && true) open-there in
+        let puts = marked-puts (x .marked) q markable-row ws (rows .marked-are) (omega (arith, h .marked-long, few x h)) e in
+        let yes-mark : may-mark ≡ true = may-is ∙ e in
+        λ tell.
+        does _ _ (rw yes-mark) (newly-in tell true e)
+        (put-means x h true i l ws long may puts
+        ∙ ap (λ (j : ℕ). with-entries (meaning x) (update (with-mark true) (meaning x .entries) j)) (sym (index-is (meaning x) _ _ (stands x) p)))
+        (inr (put-started x h true i l ws long may puts))
+
+    -- it does not, and the bits are as they were
+    kept-steps : markable-row ≡ false → Marks x p (record { newly = n; «record» = with-marked x ws })
+    unfolding mark
+    kept-steps e =
+        let same = marked-keeps (x .marked) (offset x + i) markable-row ws (rows .marked-are) e in
+        let no-mark : may-mark ≡ false = may-is ∙ e in
+        λ tell. does _ _ (rw no-mark) (newly-in tell false e) (same-means x h ws long same) (inr (same-started x h ws long same))
+
+    pub mark-steps : (y : Sender) → y ≡ with-marked x ws → Marks x p (record { newly = n; «record» = y })
+    mark-steps y y-is = subst (λ (z : Sender). Marks x p (record { newly = n; «record» = z })) (sym y-is) (by markable-row refl)
       where
-        by : (b : Bool) → markable-here ≡ b → Marks x p (record { newly = n; «record» = y })
-        by true e =
-            let q = offset x + i in
-            let open-there : at (x .retired) q ≡ false = not-true (at (x .retired) q) (and-true-each _ _ e .0) in
-            let may : (at (x .retired) q && true) ≡ false = ap (λ (t : Bool). t && true) open-there in
-            let puts = marked-puts (x .retired) (x .marked) q ws n m (omega (arith, h .marked-long, few x h)) e in
-            let yes-mark : may-mark ≡ true = may-in ∙ e in
-            record {
-              started = subst Started (sym y-is) (put-started x h true i l ws long may puts);
-              told = λ tell. rw yes-mark (ap tell (sym (newly-in true e)));
-              left-is = λ tell.
-                  rw yes-mark (ap meaning y-is ∙ put-means x h true i l ws long may puts
-                  ∙ ap (λ (j : ℕ). with-entries (meaning x) (update (with-mark true) (meaning x .entries) j)) is);
-            }
-        by false e =
-            let same = marked-keeps (x .retired) (x .marked) (offset x + i) ws n m e in
-            let no-mark : may-mark ≡ false = may-in ∙ e in
-            record {
-              started = subst Started (sym y-is) (same-started x h ws long same);
-              told = λ tell. rw no-mark (ap tell (sym (newly-in false e)));
-              left-is = λ tell. rw no-mark (ap meaning y-is ∙ same-means x h ws long same);
-            }
+        by : (b : Bool) → markable-row ≡ b → Marks x p (record { newly = n; «record» = with-marked x ws })
+        by true e = set-steps e
+        by false e = kept-steps e
 
--- ---- a rule that comes to marking keeps its promise as marking does
-never-refused : (tell : ℕ → Answer) (y : rule.Sender) (p n : ℕ) → mark tell y p ≡ Refused n → ⊥
-unfolding mark
-never-refused tell y p n = either (getD (map markable (y .entries)) (index y p) false) _ _ _ _
-  where
-    either : (c : Bool) (s t : rule.Sender) (a b : Answer) → cond c (Done s a) (Done t b) ≡ Refused n → ⊥
-    either true s t a b e = let z : _≡_ {A = ℕ} 0 1 = cc in omega arith
-    either false s t a b e = let z : _≡_ {A = ℕ} 0 1 = cc in omega arith
+-- ---- a NACK's reason: above 4 nothing is marked
+pub nacked-none : (y : rule.Sender) (p reason : ℕ) → 4 < reason → nacked y p reason ≡ Done y (answer.Marked 0)
+unfolding nacked
+nacked-none y p reason l = rw (lt-leb reason 4 l)
 
-pub marks-meet : (tell : ℕ → Answer) (x : Sender) (p : ℕ) (o : Outcome Answer rule.Sender) (r : Marking) → o ≡ mark tell (meaning x) p → Marks x p r
-    → Steps x o (record { answer = tell (r .newly); «record» = r .«record» })
-marks-meet tell x p o r e h = record {
-  answer-is = sym (ap paper (h .told tell)) ∙ sym (answered-paper (mark tell (meaning x) p)) ∙ sym (ap (on-paper paper) e);
-  record-is = h .left-is tell ∙ sym (ap (left (meaning x)) e);
-  untouched = λ n f. absurd (never-refused tell (meaning x) p n (sym e ∙ f));
-  sound = inr (h .started);
-}
-
--- ---- a NACK's reason
-module _ (y : rule.Sender) (p reason : ℕ) where
-  pub nacked-none : 4 < reason → nacked y p reason ≡ Done y (answer.Marked 0)
-  unfolding nacked
-  nacked-none l = rw (lt-leb reason 4 l)
-
-  pub nacked-mark : reason ≤ 4 → nacked y p reason ≡ mark answer.Marked y p
-  unfolding nacked
-  nacked-mark l = rw (le-leb reason 4 l)
+pub nacked-mark : (x : Sender) (p reason : ℕ) → reason ≤ 4 → (r : Stepped) → Steps x (mark answer.Marked (meaning x) p) r
+    → Steps x (nacked (meaning x) p reason) r
+unfolding nacked
+nacked-mark x p reason l r h = rw (le-leb reason 4 l) h

@@ -16,16 +16,15 @@ use Rattle.lists.specs.Lists.{lead, update}
 use Rattle.lists.proofs.Index.{map-table}
 use Rattle.lists.proofs.Tables.{lead-table}
 use Rattle.row.specs.Row.{at, Becomes, without-bit}
-use Rattle.marks.specs.Marks.{marked-at, Finds}
+use Rattle.marks.specs.Marks.{marked-at, bit-of, Finds}
 use Rattle.marks.specs.declared.Found.the-variants.{Marked, Nothing}
 use Rattle.rules.specs.Numbers.{psn, words}
-use Rattle.rules.specs.Sender.{outstanding, nth, index, with-entries}
+use Rattle.rules.specs.Sender.{outstanding, nth, with-entries}
 use Rattle.rules.specs.Marks.{nearest, unmarked, with-mark}
 use Rattle.sender.specs.declared.Sender.{Sender}
 use Rattle.sender.specs.Record.{meaning, entry, offset, with-marked, Started}
 use Rattle.sender.proofs.Entries.{length-entries, few}
 use Rattle.sender.proofs.Marked.{Puts, clear-puts, put-means, put-started}
-use Rattle.sender.proofs.Judged.{index-is}
 
 -- ---- the first of the marks is the rule's nearest
 module _ (x : Sender) (i : ℕ) (first : First (marked-at (x .marked) (x .place .0)) (x .outstanding) i) where
@@ -48,38 +47,40 @@ pub none-marked : (x : Sender) → Finds (x .marked) (x .place .0) (x .outstandi
 unfolding Finds
 none-marked x first = none-is x (x .outstanding) first ∙ le-leb (x .outstanding) (x .outstanding) (omega arith)
 
--- ---- a packet number p is found, at the index k
+-- ---- a packet number p is found, and its bit cleared
 module _ (x : Sender) (h : Started x) (p : Psn) (found : Finds (x .marked) (x .place .0) (x .outstanding) (Marked p)) where
   pub some-marked : leb (outstanding (meaning x)) (nearest (meaning x)) ≡ false
   unfolding Finds
   some-marked = none-is x (found .0) (found .2) ∙ lt-leb (x .outstanding) (found .0) (found .1)
 
-  pub index-found : (k : ℕ) → k ≡ index (meaning x) (p .0) → (k ≡ nearest (meaning x)) × (k < x .outstanding)
+  index-found : (distance (after (x .place .0) 1) (p .0) ≡ nearest (meaning x)) × (distance (after (x .place .0) 1) (p .0) < x .outstanding)
   unfolding Finds
-  index-found k k-is =
+  index-found =
+      let a = x .place .0 in
       let i = found .0 in
       let inside = found .1 in
-      let here : distance (after (x .place .0) 1) (after (x .place .0) (1 + i)) ≡ i =
-      ahead (x .place .0) 1 (1 + i) (omega arith) (omega (arith, few x h)) ∙ omega arith in
-      let k-here : k ≡ i = k-is ∙ index-is x (p .0) ∙ ap (λ (q : Psn). distance (after (x .place .0) 1) (q .0)) (found .3) ∙ here in
-      (k-here ∙ sym (nearest-is x i (found .2)), omega (arith, k-here))
+      let here : distance (after a 1) (after a (1 + i)) ≡ i = ahead a 1 (1 + i) (omega arith) (omega (arith, few x h)) ∙ omega arith in
+      let is : distance (after a 1) (p .0) ≡ i = ap (λ (q : Psn). distance (after a 1) (q .0)) (found .3) ∙ here in
+      (is ∙ sym (nearest-is x i (found .2)), omega (arith, is))
 
   pub resent-is : p ≡ psn (nth (meaning x) (nearest (meaning x)))
   unfolding Finds meaning
   resent-is = found .3 ∙ ap (λ (i : ℕ). psn (after (x .place .0) (1 + i))) (sym (nearest-is x (found .0) (found .2)))
 
-  module _ (k : ℕ) (k-is : k ≡ index (meaning x) (p .0)) (ws : List ℕ) (cleared : Becomes (x .marked) ws (without-bit (x .marked) (offset x + k))) where
+  module _ (ws : List ℕ) (cleared : Becomes (x .marked) ws (without-bit (x .marked) (bit-of (x .place .0) (p .0)))) where
     long : length ws ≡ words
     long = cleared .long ∙ h .marked-long
+
+    abbrev k : ℕ
+    k = distance (after (x .place .0) 1) (p .0)
 
     puts : Puts false (offset x + k) (x .marked) ws
     puts = clear-puts (x .marked) ws (offset x + k) cleared
 
     pub resent-means : meaning (with-marked x ws) ≡ with-entries (meaning x) (update (with-mark false) (meaning x .entries) (nearest (meaning x)))
     resent-means =
-        let is = index-found k k-is in
-        put-means x h false k (is .1) ws long (and-false (at (x .retired) (offset x + k))) puts
-        ∙ ap (λ (i : ℕ). with-entries (meaning x) (update (with-mark false) (meaning x .entries) i)) (is .0)
+        put-means x h false k (index-found .1) ws long (and-false (at (x .retired) (offset x + k))) puts
+        ∙ ap (λ (i : ℕ). with-entries (meaning x) (update (with-mark false) (meaning x .entries) i)) (index-found .0)
 
     pub resent-started : Started (with-marked x ws)
-    resent-started = put-started x h false k (index-found k k-is .1) ws long (and-false (at (x .retired) (offset x + k))) puts
+    resent-started = put-started x h false k (index-found .1) ws long (and-false (at (x .retired) (offset x + k))) puts

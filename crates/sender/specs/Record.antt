@@ -8,15 +8,13 @@ use lib.ListN.{length, getD, replicate}
 use Rattle.lists.specs.Index.{table, total}
 use Rattle.row.specs.Row.{at}
 use Rattle.rules.specs.Numbers.{turn, psn, room-ok, size-ok, largest-room, words}
-use Rattle.promise.specs.Outcome.{Outcome, left}
+use Rattle.promise.specs.Outcome.{Outcome}
 use Rattle.promise.specs.Promise.{Meets}
-use Rattle.rules.specs.Paper.{paper, answered}
+use Rattle.rules.specs.Paper.{paper}
 use Rattle.rules.specs.Sender.{Entry, size-held}
 use Rattle.rules.specs.Sender as rule
-use Rattle.rules.specs.Retire.{after-sack, report}
 use Rattle.rules.specs.Marks.{mark}
 use Rattle.rules.specs.declared.Answer.{Answer}
-use Rattle.rules.specs.declared.Block.{Block}
 use Rattle.sender.specs.declared.Sender.{Sender}
 use Rattle.sender.specs.declared.Stepped.{Stepped}
 use Rattle.sender.specs.declared.Marking.{Marking}
@@ -90,14 +88,6 @@ with-marked x ws = record {
   marked = ws;
 }
 
--- a NACK or timer for p, told as one or the other
-pub record Marks (x : Sender) (p : ℕ) (r : Marking) : Type 0 where
-  pub started : Started (r .record)
-  pub told : (tell : ℕ → Answer) → answered (mark tell (meaning x) p) ≡ tell (r .newly)
-  pub left-is : (tell : ℕ → Answer) → meaning (r .record) ≡ left (meaning x) (mark tell (meaning x) p)
-
--- a SACK that names nothing unsent
-pub record Acknowledges (x : Sender) (cack : ℕ) (b : Block) (r : Stepped) : Type 0 where
-  pub started : Started (r .record)
-  pub answer-is : r .answer ≡ report (meaning x) cack b
-  pub record-is : meaning (r .record) ≡ after-sack (meaning x) cack b
+-- a NACK or timer for p, however it is told
+abbrev pub Marks : Sender → ℕ → Marking → Type 0
+Marks x p r = (tell : ℕ → Answer) → Steps x (mark tell (meaning x) p) (record { answer = tell (r .newly); «record» = r .«record» })

@@ -2,12 +2,11 @@
 // and those after it. The sizes stand by packet number modulo the largest room.
 ghost use mathlib.Core.Path.{_≡_};
 ghost use mathlib.Core.Bool.{false};
-ghost use Rattle.rules.specs.Sender.{index as index-of, start as start-of, unsent as unsent-of};
-ghost use Rattle.rules.specs.Retire.{names-unsent};
+ghost use Rattle.rules.specs.Sender.{start as start-of};
+ghost use Rattle.rules.specs.Retire.{names-unsent, acknowledged};
 ghost use Rattle.rules.specs.Sending.{nack as nack-of, resend as resend-of, sack as sack-of, send as send-of, step as step-of, timer as timer-of};
-ghost use Rattle.sender.specs.Record.{empty as empty-of, meaning, with-marked, Started, Sound, Steps, Marks, Acknowledges};
+ghost use Rattle.sender.specs.Record.{empty as empty-of, meaning, with-marked, Started, Sound, Steps, Marks};
 use marks::Found;
-use psn::HALF;
 use psn::Psn;
 use psn::TURN;
 use rules::Answer;
@@ -134,26 +133,6 @@ impl Sender {
         }
     }
 
-    // From place + 1 to a packet number.
-    fn index(self, psn: Psn) -> u32
-        ensures { λ r. ⌜ r ≡ index-of (meaning self) (psn .0) ⌝ }
-    {
-        let place = self.place;
-        place.after(1).distance(psn)
-    }
-
-    // Whether a packet number is neither outstanding nor behind place + 1.
-    fn unsent(self, psn: Psn) -> bool
-        ensures { λ r. ⌜ r ≡ unsent-of (meaning self) (psn .0) ⌝ }
-    {
-        let n = self.outstanding;
-        let i = self.index(psn);
-        if i < n {
-            return false;
-        }
-        i < HALF
-    }
-
     // The record with other marks.
     fn with_marked(self, marked: [u64; WORDS]) -> Sender
         ensures { λ r. ⌜ r ≡ with-marked self marked ⌝ }
@@ -177,18 +156,9 @@ impl Sender {
         requires { ⌜ Started self ⌝ }
         ensures { λ r. ⌜ Marks self (psn .0) r ⌝ }
     {
-        let place = self.place;
-        let n = self.outstanding;
         let retired = self.retired;
         let mut marked = self.marked;
-        let i = self.index(psn);
-        if n <= i {
-            return Marking {
-                newly: 0,
-                record: self,
-            };
-        }
-        let newly = marks::mark(&retired, &mut marked, (place.0 + 1) % 64 + i);
+        let newly = marks::mark_psn(&retired, &mut marked, self.place, self.outstanding, psn);
         Marking {
             newly,
             record: self.with_marked(marked),
@@ -200,14 +170,13 @@ impl Sender {
         requires { ⌜ Sound self ⌝ }
         ensures { λ r. ⌜ Steps self (timer-of (meaning self) psn) r ⌝ }
     {
-        let room = self.room;
-        if room == 0 {
+        if self.room == 0 {
             return self.refused(2);
         }
         if !allowed::psn_ok(psn) {
             return self.refused(5);
         }
-        if self.unsent(psn) {
+        if retire::unsent(self.place, self.outstanding, psn) {
             return self.refused(8);
         }
         let out = self.mark(psn);
@@ -223,8 +192,7 @@ impl Sender {
         requires { ⌜ Sound self ⌝ }
         ensures { λ r. ⌜ Steps self (nack-of (meaning self) psn reason) r ⌝ }
     {
-        let room = self.room;
-        if room == 0 {
+        if self.room == 0 {
             return self.refused(2);
         }
         if !allowed::psn_ok(psn) {
@@ -233,7 +201,7 @@ impl Sender {
         if !allowed::reason_ok(reason) {
             return self.refused(15);
         }
-        if self.unsent(psn) {
+        if retire::unsent(self.place, self.outstanding, psn) {
             return self.refused(8);
         }
         if 4 < reason {
@@ -255,66 +223,52 @@ impl Sender {
         requires { ⌜ Sound self ⌝ }
         ensures { λ r. ⌜ Steps self (resend-of (meaning self)) r ⌝ }
     {
-        let room = self.room;
-        if room == 0 {
+        if self.room == 0 {
             return self.refused(2);
         }
-        let place = self.place;
-        let n = self.outstanding;
         let mut marked = self.marked;
-        match marks::nearest(&marked, place, n) {
-            Found::Nothing => self.refused(9),
-            Found::Marked(psn) => {
-                row::clear(&mut marked, (place.0 + 1) % 64 + self.index(psn));
-                Stepped {
-                    answer: Answer::Resent(psn),
-                    record: self.with_marked(marked),
-                }
-            }
+        let Found::Marked(psn) = marks::take(&mut marked, self.place, self.outstanding) else {
+            return self.refused(9);
+        };
+        Stepped {
+            answer: Answer::Resent(psn),
+            record: self.with_marked(marked),
         }
     }
 
-    // Whether a SACK names an unsent packet number.
-    fn names_unsent(self, cack: Psn, block: Block) -> bool
-        requires { ⌜ Started self ⌝ }
-        ensures { λ r. ⌜ r ≡ names-unsent (meaning self) (cack .0) block ⌝ }
+    // A SACK: judged whole before anything is retired.
+    pub fn sack(self, cack: Psn, block: Block) -> Stepped
+        requires { ⌜ Sound self ⌝ }
+        ensures { λ r. ⌜ Steps self (sack-of (meaning self) cack block) r ⌝ }
     {
-        let place = self.place;
-        let n = self.outstanding;
-        let d = place.distance(cack);
-        if n < d {
-            if d < HALF {
-                return true;
-            }
+        if self.room == 0 {
+            return self.refused(2);
         }
-        let base = block.base;
-        let o = place.after(1).distance(base);
-        (block.bitmap & retire::unsent_bits(o, n)) != 0
+        if !allowed::psn_ok(cack) {
+            return self.refused(5);
+        }
+        if !allowed::psn_ok(block.base) {
+            return self.refused(5);
+        }
+        if retire::names_unsent(self.place, self.outstanding, cack, block) {
+            return self.refused(8);
+        }
+        self.acknowledge(cack, block)
     }
 
     // All that a SACK names is retired, and the place moves over the retired at the front.
     fn acknowledge(self, cack: Psn, block: Block) -> Stepped
         requires { ⌜ Started self × (names-unsent (meaning self) (cack .0) block ≡ false) ⌝ }
-        ensures { λ r. ⌜ Acknowledges self (cack .0) block r ⌝ }
+        ensures { λ r. ⌜ Steps self (acknowledged (meaning self) (cack .0) block) r ⌝ }
     {
         let place = self.place;
         let n = self.outstanding;
-        let s = (place.0 + 1) % 64;
-        let first = place.after(TURN + 1 - s);
-        let d = place.distance(cack);
-        let mut upto = s;
-        if d <= n {
-            upto = s + d;
-        }
         let sizes = self.sizes;
         let mut retired = self.retired;
         let mut marked = self.marked;
-        let out = retire::retire(&mut retired, &mut marked, &sizes, first, upto, block);
-        let t = row::run(&retired, s + n);
-        row::shed(&mut retired, (t / 64) as usize);
-        row::shed(&mut marked, (t / 64) as usize);
+        let out = retire::acknowledge(&mut retired, &mut marked, &sizes, place, n, cack, block);
         let held = self.held - out.bytes;
-        let now = place.after(t - s);
+        let now = place.after(out.by);
         Stepped {
             answer: Answer::Retired {
                 newly: out.newly,
@@ -324,7 +278,7 @@ impl Sender {
             record: Sender {
                 room: self.room,
                 place: now,
-                outstanding: n - (t - s),
+                outstanding: n - out.by,
                 held,
                 sizes,
                 retired,
@@ -333,39 +287,17 @@ impl Sender {
         }
     }
 
-    // A SACK: judged whole before anything is retired.
-    pub fn sack(self, cack: Psn, block: Block) -> Stepped
-        requires { ⌜ Sound self ⌝ }
-        ensures { λ r. ⌜ Steps self (sack-of (meaning self) cack block) r ⌝ }
-    {
-        let room = self.room;
-        if room == 0 {
-            return self.refused(2);
-        }
-        if !allowed::psn_ok(cack) {
-            return self.refused(5);
-        }
-        let base = block.base;
-        if !allowed::psn_ok(base) {
-            return self.refused(5);
-        }
-        if self.names_unsent(cack, block) {
-            return self.refused(8);
-        }
-        self.acknowledge(cack, block)
-    }
-
     // An event.
     pub fn step(self, event: Sending) -> Stepped
         requires { ⌜ Sound self ⌝ }
         ensures { λ r. ⌜ Steps self (step-of (meaning self) event) r ⌝ }
     {
         match event {
-            Sending::Send { size } => self.send(size),
-            Sending::Sack { cack, block } => self.sack(cack, block),
-            Sending::Nack { psn, reason } => self.nack(psn, reason),
-            Sending::Timer { psn } => self.timer(psn),
-            Sending::Resend => self.resend(),
+            Sending::Send { size } => return self.send(size),
+            Sending::Sack { cack, block } => return self.sack(cack, block),
+            Sending::Nack { psn, reason } => return self.nack(psn, reason),
+            Sending::Timer { psn } => return self.timer(psn),
+            Sending::Resend => return self.resend(),
         }
     }
 }

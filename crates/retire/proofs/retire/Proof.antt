@@ -62,7 +62,7 @@ add-newly c =
     let f = names (entry .args .first .0) (entry .args .upto) (entry .args .block) in
     omega (
       arith,
-      entry .pre .1,
+      entry .pre .retired-long,
       l .loop .inv .within,
       l .loop .inv .counted,
       tally-le (64 * l .loop .j) (fresh (entry .args .retired .now) f),
@@ -91,7 +91,7 @@ add-sum c =
     let start = c .before .after .result .0 in
     omega (
       arith,
-      entry .pre .1,
+      entry .pre .retired-long,
       l .loop .inv .within,
       l .loop .inv .weighed,
       weigh-le (64 * l .loop .j) 65535 (fresh (entry .args .retired .now) f) (size-by sizes first) (small first),
@@ -116,7 +116,7 @@ loop-again c =
     let named = c .before .before .before .before .named in
     let out = c .before .before .before .one in
     let start = c .before .after in
-    upto-more (a .retired .now) (a .marked .now) (a .sizes .now) (a .first .0) f (entry .pre .0)
+    upto-more (a .retired .now) (a .marked .now) (a .sizes .now) (a .first .0) f (entry .pre .marked-long)
     (now .j) (now .retired) (now .marked) (now .newly) (now .sum) (now .inv) inside
     (named .result) (start .result .0) (c .bytes .result) (out .result) (named .ensures) (out .ensures) (start .ensures) (c .bytes .ensures)
 
@@ -133,7 +133,7 @@ returns c =
     let a = entry .args in
     let f = names (a .first .0) (a .upto) (a .block) in
     let now = l .loop in
-    all-retired (a .retired .now) (a .marked .now) (a .sizes .now) (a .first .0) f (entry .pre .0)
+    all-retired (a .retired .now) (a .marked .now) (a .sizes .now) (a .first .0) f (entry .pre .marked-long)
     (now .j) (now .retired) (now .marked) (now .newly) (now .sum) (now .inv) (c .loop-test .left)
 
 pub retire-spec : {M : Type 1} → statement M

@@ -1,56 +1,37 @@
--- `Sender::mark` meets its contract: past the outstanding nothing is marked, and among them one bit is set where it may be. Assumes nothing.
+-- `Sender::mark` meets its contract: one bit is set where it may be. Assumes nothing.
 use native.Mathlib.Omega.{arith}
 use Rattle.sender.proofs.Entries.{few}
-use Rattle.sender.proofs.Marked.{mark-past, mark-in}
+use Rattle.sender.proofs.Marked.{mark-steps}
 use borrow.Author.Needs.{needs}
 use Rattle.sender.proofs.Sender.mark.Statement.{statement}
 use Rattle.sender.proofs.Sender.mark.Tie as tie
 
-index-requires : tie.Need-index-requires
-index-requires c κs = search needs
+slice-aggregate-mark-psn : tie.Need-slice-aggregate-mark-psn
+slice-aggregate-mark-psn c = search needs
 
-returns : tie.Need-returns
-returns c =
-    let a = c .before .before .before .before .before .args in
-    mark-past (a .self) (c .before .before .before .before .before .pre) (a .psn .0) (c .before .index .result) (c .before .index .ensures) (c .if1 .taken)
+slice-aggregate-mark-psn-2 : tie.Need-slice-aggregate-mark-psn-2
+slice-aggregate-mark-psn-2 c = search needs
 
-slice-aggregate-mark : tie.Need-slice-aggregate-mark
-slice-aggregate-mark c = search needs
-
-slice-aggregate-mark-2 : tie.Need-slice-aggregate-mark-2
-slice-aggregate-mark-2 c = search needs
-
-add-mark : tie.Need-add-mark
-add-mark c = search needs
-
-add-mark-2 : tie.Need-add-mark-2
-add-mark-2 c = omega (arith, few (c .before .before .before .before .before .before .before .before .args .self) (c .before .before .before .before .before .before .before .before .pre))
-
-mark-requires : tie.Need-mark-requires
-mark-requires c κs = search needs
+mark-psn-requires : tie.Need-mark-psn-requires
+mark-psn-requires c κs = let h = c .before .before .before .before .pre in record { place-low = h .place-low; few = omega (arith, few _ h) }
 
 with-marked-requires : tie.Need-with-marked-requires
 with-marked-requires c κs = search needs
 
-returns-2 : tie.Need-returns-2
-returns-2 c =
-    let a = c .before .before .before .before .before .before .before .before .before .before .before .args in
-    let i = c .before .before .before .before .before .before .before .index in
-    let rows = c .before .before .mark in
+returns : tie.Need-returns
+returns c =
+    let entry = c .before .before .before .before .before .before .before in
+    let a = entry .args in
+    let rows = c .before .before .mark-psn in
     let out = c .with-marked in
-    mark-in (a .self) (c .before .before .before .before .before .before .before .before .before .before .before .pre) (a .psn .0) (i .result) (i .ensures) (c .before .before .before .before .before .before .if1 .left)
-    (rows .last .1 .0) (rows .result) (rows .ensures) (out .result) (out .ensures)
+    mark-steps (a .self) (entry .pre) (a .psn .0) (rows .last .1 .0) (rows .result) (rows .ensures) (out .result) (out .ensures)
 
 pub mark-spec : {M : Type 1} → statement M
 mark-spec =
     tie.close
     (tie.spec
-    index-requires
-    returns
-    slice-aggregate-mark
-    slice-aggregate-mark-2
-    add-mark
-    add-mark-2
-    mark-requires
+    slice-aggregate-mark-psn
+    slice-aggregate-mark-psn-2
+    mark-psn-requires
     with-marked-requires
-    returns-2)
+    returns)

@@ -7,8 +7,8 @@ use Prim.Native.Nat.{ℕ}
 use native.Mathlib.Omega.{arith}
 use borrow.Author.Tests.{le-leb, lt-leb, not-false}
 use Rattle.promise.specs.Outcome.{Refusals}
-use Rattle.promise.proofs.Refusing.{Past, test, number, past, none-left}
-use Rattle.promise.proofs.Meeting.{returns-at, does}
+use Rattle.promise.proofs.Refusing.{Past, test, number, past}
+use Rattle.promise.proofs.Meeting.{returns-at, passes, does}
 use Rattle.rules.specs.Numbers.{psn, size-ok}
 use Rattle.rules.specs.Sender.{sent}
 use Rattle.rules.specs.Sending.{send-refusals, send}
@@ -29,6 +29,10 @@ past-unused : (c : tie.Else1) → Past (tests (c .before)) 1
 unfolding send-refusals Past test
 past-unused c = past (tests (c .before)) 0 tt (is-used (c .before .args .self) (c .if1 .left))
 
+-- past the first test the record was started
+started : (c : tie.Else1) → Started (c .before .args .self)
+started c = in-use (c .before .args .self) (c .before .pre) (c .if1 .left)
+
 good-size : (c : tie.Else2) → size-ok (c .before .before .before .args .size) ≡ true
 good-size c = sym (c .before .size-ok .ensures) ∙ not-false (c .before .size-ok .result) (c .if2 .left)
 
@@ -42,19 +46,16 @@ past-room c =
     let x = c .before .before .before .before .args .self in
     past _ 2 (past-size (c .before)) (full-is x ∙ lt-leb (x .room) (x .outstanding) (c .if3 .left))
 
--- past the first test the record was started
-started : (c : tie.Else1) → Started (c .before .args .self)
-started c = in-use (c .before .args .self) (c .before .pre) (c .if1 .left)
-
 refused-requires : tie.Need-refused-requires
 refused-requires c κs = search needs
 
 returns : tie.Need-returns
 unfolding send send-refusals Past test number
 returns c =
+    let entry = c .before .before in
+    let idle = is-unused (entry .args .self) (c .before .if1 .taken) in
     let said = c .refused .ensures in
-    let idle = is-unused (c .before .before .args .self) (c .before .if1 .taken) in
-    returns-at (tests (c .before .before)) _ refl 0 tt idle (on-refusal (said .0)) (said .1) (c .before .before .pre)
+    returns-at (tests entry) _ refl 0 tt idle (on-refusal (said .0)) (said .1) (entry .pre)
 
 size-ok-requires : tie.Need-size-ok-requires
 size-ok-requires c κs = search needs
@@ -65,9 +66,10 @@ refused-requires-2 c κs = search needs
 returns-2 : tie.Need-returns-2
 unfolding send send-refusals test number
 returns-2 c =
+    let entry = c .before .before .before .before in
     let bad = sym (ap not (c .before .before .size-ok .ensures)) ∙ c .before .if2 .taken in
     let said = c .refused2 .ensures in
-    returns-at _ _ refl 1 (past-unused (c .before .before .before)) bad (on-refusal (said .0)) (said .1) (c .before .before .before .before .pre)
+    returns-at _ _ refl 1 (past-unused (c .before .before .before)) bad (on-refusal (said .0)) (said .1) (entry .pre)
 
 refused-requires-3 : tie.Need-refused-requires-3
 refused-requires-3 c κs = search needs
@@ -75,16 +77,17 @@ refused-requires-3 c κs = search needs
 returns-3 : tie.Need-returns-3
 unfolding send send-refusals test number
 returns-3 c =
-    let x = c .before .before .before .before .before .args .self in
+    let entry = c .before .before .before .before .before in
+    let x = entry .args .self in
     let full = full-is x ∙ le-leb (x .room) (x .outstanding) (c .before .if3 .taken) in
     let said = c .refused3 .ensures in
-    returns-at _ _ refl 2 (past-size (c .before .before)) full (on-refusal (said .0)) (said .1) (c .before .before .before .before .before .pre)
+    returns-at _ _ refl 2 (past-size (c .before .before)) full (on-refusal (said .0)) (said .1) (entry .pre)
 
 add-at : tie.Need-add-at
 add-at c = omega (arith, started (c .before .before .before .before .before .before .before .before) .place-low)
 
 add-at-2 : tie.Need-add-at-2
-add-at-2 c = omega (arith, started (c .before .before .before .before .before .before .before .before) .place-low, few _ (started (c .before .before .before .before .before .before .before .before)))
+add-at-2 c = let h = started (c .before .before .before .before .before .before .before .before) in omega (arith, h .place-low, few _ h)
 
 cast-at : tie.Need-cast-at
 cast-at c = search needs
@@ -105,18 +108,22 @@ add-t13 : tie.Need-add-t13
 add-t13 c = omega (arith, few _ (started (c .before .before .before .before .before .before .before .before .before)))
 
 add-t20 : tie.Need-add-t20
-add-t20 c = let h = started (c .before .before .before .before .before .before .before .before .before .before) in omega (arith, held-bound _ h, few _ h)
+add-t20 c =
+    let h = started (c .before .before .before .before .before .before .before .before .before .before) in
+    omega (arith, held-bound _ h, few _ h)
 
 returns-4 : tie.Need-returns-4
 unfolding send send-refusals sent
 returns-4 c =
-    let x = c .before .before .before .before .before .before .before .before .before .before .before .args .self in
-    let size = c .before .before .before .before .before .before .before .before .before .before .before .args .size in
+    let entry = c .before .before .before .before .before .before .before .before .before .before .before in
+    let x = entry .args .self in
+    let size = entry .args .size in
     let h = started (c .before .before .before .before .before .before .before .before .before .before) in
     let ok = good-size (c .before .before .before .before .before .before .before .before) in
-    let free = c .before .before .before .before .before .before .before .if3 .left in
-    does _ _ (none-left _ _ (past-room (c .before .before .before .before .before .before .before))) (ap (λ (p : ℕ). answer.Sent (psn p)) (c .before .after .ensures ∙ sym (next-is x)))
-    (sent-means x h size ok free) (inr (sent-started x h size ok free))
+    let third = c .before .before .before .before .before .before .before in
+    let free = third .if3 .left in
+    let given = ap (λ (p : ℕ). answer.Sent (psn p)) (c .before .after .ensures ∙ sym (next-is x)) in
+    passes _ _ refl (past-room third) (does _ _ refl given (sent-means x h size ok free) (inr (sent-started x h size ok free)))
 
 pub send-spec : {M : Type 1} → statement M
 send-spec =

@@ -4,8 +4,8 @@ use mathlib.Core.Bool.{true, not}
 use mathlib.Core.Logic.{inl, inr}
 use borrow.Author.Tests.{not-false}
 use Rattle.promise.specs.Outcome.{Refusals}
-use Rattle.promise.proofs.Refusing.{Past, test, number, past, none-left}
-use Rattle.promise.proofs.Meeting.{returns-at, does}
+use Rattle.promise.proofs.Refusing.{Past, test, number, past}
+use Rattle.promise.proofs.Meeting.{returns-at, passes, does}
 use Rattle.rules.specs.Numbers.{room-ok}
 use Rattle.rules.specs.Sender.{start-refusals, start}
 use Rattle.rules.proofs.Settled.{on-refusal}
@@ -44,9 +44,10 @@ refused-requires c κs = search needs
 returns : tie.Need-returns
 unfolding start start-refusals Past test number
 returns c =
+    let entry = c .before .before .before .before .before .before in
     let bad = sym (ap not (c .before .before .before .room-ok .ensures)) ∙ c .before .before .if1 .taken in
     let said = c .refused .ensures in
-    returns-at (tests (c .before .before .before .before .before .before)) _ refl 0 tt bad (on-refusal (said .0)) (said .1 ∙ c .before .empty .ensures) (inl refl)
+    returns-at (tests entry) _ refl 0 tt bad (on-refusal (said .0)) (said .1 ∙ c .before .empty .ensures) (inl refl)
 
 psn-ok-requires : tie.Need-psn-ok-requires
 psn-ok-requires c κs = search needs
@@ -79,14 +80,15 @@ after-requires c κs = search needs
 returns-3 : tie.Need-returns-3
 unfolding start start-refusals
 returns-3 c =
-    let room = c .before .before .before .before .before .before .before .before .before .args .opening .room in
-    let first = c .before .before .before .before .before .before .before .before .before .args .opening .first in
-    let ok = good-room (c .before .before .before .before .before) in
+    let entry = c .before .before .before .before .before .before .before .before .before in
+    let room = entry .args .opening .room in
+    let first = entry .args .opening .first .0 in
+    let good = good-room (c .before .before .before .before .before) in
     let place = c .after in
     let word = c .before .low in
-    let means = begun-means room (first .0) (place .result) (word .result) ok (place .ensures) (word .ensures) in
-    let begins = begun-started room (first .0) (place .result) (word .result) ok (place .ensures) (word .ensures) in
-    does _ _ (none-left _ _ (past-psn (c .before .before .before))) refl means (inr begins)
+    passes _ _ refl (past-psn (c .before .before .before))
+    (does _ _ refl refl (begun-means room first (place .result) (word .result) good (place .ensures) (word .ensures))
+    (inr (begun-started room first (place .result) (word .result) good (place .ensures) (word .ensures))))
 
 pub start-spec : {M : Type 1} → statement M
 start-spec =

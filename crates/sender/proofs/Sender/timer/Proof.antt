@@ -1,15 +1,15 @@
 -- `Sender::timer` meets its contract: the rule's tests one after the other, and then a mark. Assumes nothing.
-use mathlib.Core.Path.{refl, sym, ap, _∙_}
+use mathlib.Core.Path.{_≡_, refl, sym, ap, _∙_}
 use mathlib.Core.Bool.{not}
 use Rattle.promise.specs.Outcome.{Refusals}
-use Rattle.promise.proofs.Refusing.{Past, test, number, past, none-left}
-use Rattle.promise.proofs.Meeting.{returns-at}
+use Rattle.promise.proofs.Refusing.{Past, test, number, past}
+use Rattle.promise.proofs.Meeting.{returns-at, passes}
+use Rattle.rules.specs.Sender.{unsent}
 use Rattle.rules.specs.Sending.{timer-refusals, timer}
 use Rattle.rules.specs.declared.Answer.the-variants as answer
 use Rattle.rules.proofs.Settled.{on-refusal}
 use Rattle.sender.specs.Record.{meaning}
-use Rattle.sender.proofs.Entries.{in-use, is-unused, is-used}
-use Rattle.sender.proofs.Marked.{marks-meet}
+use Rattle.sender.proofs.Entries.{in-use, is-unused, is-used, stands}
 use borrow.Author.Needs.{needs}
 use Rattle.sender.proofs.Sender.timer.Statement.{statement}
 use Rattle.sender.proofs.Sender.timer.Tie as tie
@@ -18,17 +18,24 @@ use Rattle.sender.proofs.Sender.timer.Tie as tie
 abbrev tests : tie.Start → Refusals
 tests s = timer-refusals (meaning (s .args .self)) (s .args .psn)
 
-past-unused : (c : tie.Else1) → Past (tests (c .before)) 1
+past-unused : (c : tie.Else1) → Past (tests (c .before .before)) 1
 unfolding timer-refusals Past test
-past-unused c = past (tests (c .before)) 0 tt (is-used (c .before .args .self) (c .if1 .left))
+past-unused c = past (tests (c .before .before)) 0 tt (is-used (c .before .before .args .self) (c .if1 .left))
 
-past-psn : (c : tie.Else2) → Past (tests (c .before .before .before)) 2
+past-psn : (c : tie.Else2) → Past (tests (c .before .before .before .before)) 2
 unfolding timer-refusals test
 past-psn c = past _ 1 (past-unused (c .before .before)) (sym (ap not (c .before .psn-ok .ensures)) ∙ c .if2 .left)
 
-past-unsent : (c : tie.Else3) → Past (tests (c .before .before .before .before .before)) 3
+-- where it is asked, and that it is what the rule asks
+abbrev asked : tie.After-unsent → tie.Start
+asked c = c .before .before .before .before .before
+
+unsent-is : (c : tie.After-unsent) → c .unsent .result ≡ unsent (meaning (asked c .args .self)) (asked c .args .psn .0)
+unsent-is c = c .unsent .ensures (meaning (asked c .args .self)) (stands (asked c .args .self))
+
+past-unsent : (c : tie.Else3) → Past (tests (c .before .before .before .before .before .before)) 3
 unfolding timer-refusals test
-past-unsent c = past _ 2 (past-psn (c .before .before)) (sym (c .before .unsent .ensures) ∙ c .if3 .left)
+past-unsent c = past _ 2 (past-psn (c .before .before)) (sym (unsent-is (c .before)) ∙ c .if3 .left)
 
 refused-requires : tie.Need-refused-requires
 refused-requires c κs = search needs
@@ -36,9 +43,10 @@ refused-requires c κs = search needs
 returns : tie.Need-returns
 unfolding timer timer-refusals Past test number
 returns c =
+    let entry = c .before .before .before in
+    let idle = is-unused (entry .args .self) (c .before .if1 .taken) in
     let said = c .refused .ensures in
-    let idle = is-unused (c .before .before .args .self) (c .before .if1 .taken) in
-    returns-at (tests (c .before .before)) _ refl 0 tt idle (on-refusal (said .0)) (said .1) (c .before .before .pre)
+    returns-at (tests entry) _ refl 0 tt idle (on-refusal (said .0)) (said .1) (entry .pre)
 
 psn-ok-requires : tie.Need-psn-ok-requires
 psn-ok-requires c κs = search needs
@@ -49,9 +57,10 @@ refused-requires-2 c κs = search needs
 returns-2 : tie.Need-returns-2
 unfolding timer timer-refusals test number
 returns-2 c =
+    let entry = c .before .before .before .before .before in
     let high = sym (ap not (c .before .before .psn-ok .ensures)) ∙ c .before .if2 .taken in
     let said = c .refused2 .ensures in
-    returns-at _ _ refl 1 (past-unused (c .before .before .before)) high (on-refusal (said .0)) (said .1) (c .before .before .before .before .pre)
+    returns-at _ _ refl 1 (past-unused (c .before .before .before)) high (on-refusal (said .0)) (said .1) (entry .pre)
 
 unsent-requires : tie.Need-unsent-requires
 unsent-requires c κs = search needs
@@ -62,19 +71,19 @@ refused-requires-3 c κs = search needs
 returns-3 : tie.Need-returns-3
 unfolding timer timer-refusals test number
 returns-3 c =
-    let is-unsent = sym (c .before .before .unsent .ensures) ∙ c .before .if3 .taken in
+    let entry = c .before .before .before .before .before .before .before in
+    let ahead = sym (unsent-is (c .before .before)) ∙ c .before .if3 .taken in
     let said = c .refused3 .ensures in
-    returns-at _ _ refl 2 (past-psn (c .before .before .before)) is-unsent (on-refusal (said .0)) (said .1) (c .before .before .before .before .before .before .pre)
+    returns-at _ _ refl 2 (past-psn (c .before .before .before)) ahead (on-refusal (said .0)) (said .1) (entry .pre)
 
 mark-requires : tie.Need-mark-requires
-mark-requires c κs = in-use (c .before .before .before .before .before .args .self) (c .before .before .before .before .before .pre) (c .before .before .before .before .if1 .left)
+mark-requires c κs =
+    let entry = c .before .before .before .before .before .before in
+    in-use (entry .args .self) (entry .pre) (c .before .before .before .before .if1 .left)
 
 returns-4 : tie.Need-returns-4
 unfolding timer timer-refusals
-returns-4 c =
-    let a = c .before .before .before .before .before .before .before .args in
-    let on = none-left _ _ (past-unsent (c .before .before)) in
-    marks-meet answer.Expired (a .self) (a .psn .0) _ (c .before .mark .result) on (c .before .mark .ensures)
+returns-4 c = passes _ _ refl (past-unsent (c .before .before)) (c .before .mark .ensures answer.Expired)
 
 pub timer-spec : {M : Type 1} → statement M
 timer-spec =

@@ -1,4 +1,5 @@
--- `Sender::names_unsent` meets its contract: cack is past what is outstanding and not behind, or the block's bits meet those that are unsent. Assumes nothing.
+-- `retire::names_unsent` meets its contract: cack is past what is outstanding and not behind, or the block's bits meet those that are unsent.
+-- Assumes nothing.
 use mathlib.Core.Path.{sym, ap, _∙_}
 use mathlib.Core.Bool.{Bool, _&&_}
 use mathlib.Core.Logic.{⊎-elim}
@@ -8,20 +9,19 @@ use lib.Bits.{bitAnd, and-le-l}
 use Rattle.psn.specs.Psn.{half, distance}
 use Rattle.word.specs.Word.{bit-at}
 use Rattle.word.proofs.Bits.{bit-and}
-use Rattle.sender.proofs.Judged.{unsent-by-cack, unsent-by-bit}
+use Rattle.retire.proofs.Judged.{unsent-by-cack, unsent-by-bit}
 use borrow.Author.Needs.{needs}
-use Rattle.sender.proofs.Sender.names_unsent.Statement.{statement}
-use Rattle.sender.proofs.Sender.names_unsent.Tie as tie
+use Rattle.retire.proofs.names_unsent.Statement.{statement}
+use Rattle.retire.proofs.names_unsent.Tie as tie
 
 distance-requires : tie.Need-distance-requires
 distance-requires c κs = search needs
 
 returns : tie.Need-returns
-returns c =
-    let entry = c .before .before .before .before in
-    let a = entry .args in
+returns c = λ x h.
+    let a = c .before .before .before .args in
     let d = c .before .before .distance in
-    sym (unsent-by-cack (a .self) (a .cack .0) (a .block) (d .result) (d .ensures) (c .before .if1 .taken) (c .if2 .taken))
+    sym (unsent-by-cack x (a .place .0) (a .n) h (a .cack .0) (a .block) (d .result) (d .ensures) (c .before .if1 .taken) (c .if2 .taken))
 
 after-requires : tie.Need-after-requires
 after-requires c κs = search needs
@@ -33,18 +33,16 @@ unsent-bits-requires : tie.Need-unsent-bits-requires
 unsent-bits-requires c κs = search needs
 
 returns-2 : tie.Need-returns-2
-returns-2 c =
-    let joined = c .before .before .before .before .before in
-    let entry = joined .before .before .before in
-    let x = entry .args .self in
-    let block = entry .args .block in
-    let d = joined .before .distance .result in
+returns-2 c = λ x h.
+    let a = c .before .before .before .before .before .before .before .args in
+    let block = a .block in
+    let d = c .before .before .before .before .before .before .distance in
     let o = c .before .before .distance2 in
     let mask = c .before .unsent-bits .result in
-    let not-past : x .outstanding < d → d < half → ⊥ =
-    λ h l. ⊎-elim (λ w. omega (arith, w .1 .left)) (λ w. omega (arith, w .left)) (joined .if1 .came) in
-    let o-is = o .ensures ∙ ap (λ (a : ℕ). distance a (block .base .0)) (c .before .before .before .after .ensures) in
-    unsent-by-bit x (entry .args .cack .0) block d (joined .before .distance .ensures) not-past (o .result) (bitAnd (block .bitmap) mask)
+    let near : a .n < d .result → d .result < half → ⊥ =
+    λ k l. ⊎-elim (λ w. omega (arith, w .1 .left)) (λ w. omega (arith, w .left)) (c .before .before .before .before .before .if1 .came) in
+    let o-is = o .ensures ∙ ap (λ (b : ℕ). distance b (block .base .0)) (c .before .before .before .after .ensures) in
+    unsent-by-bit x (a .place .0) (a .n) h (a .cack .0) block (d .result) (d .ensures) near (o .result) (bitAnd (block .bitmap) mask)
     o-is (omega (arith, and-le-l (block .bitmap) mask))
     (λ j l. bit-and (block .bitmap) mask j ∙ ap (λ (t : Bool). bit-at (block .bitmap) j && t) (c .before .unsent-bits .ensures j l))
 
