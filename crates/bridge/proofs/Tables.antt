@@ -23,7 +23,8 @@ use Rattle.table.specs.Slots.{On, meaning}
 use Rattle.table.proofs.Slots.{at-means}
 use Rattle.delivery.specs.Rules.{Gives, rules}
 use Rattle.delivery.proofs.Following.{Follows, Following, keeps}
-use Rattle.bridge.specs.Tables.{sending-in, receiving-in, sending-opens, receiving-opens, Started, Sending, sends, Receiving, receives, Else, tables, TablesKeep}
+use Rattle.bridge.specs.Tables.{sending-in, receiving-in, sending-opens, receiving-opens, Started, Sending, sends, Receiving, receives, Else}
+use Rattle.bridge.specs.Tables.{tables, TablesKeep}
 use Rattle.bridge.proofs.Engines.{gives}
 use Rattle.bridge.proofs.Halves.{Half, sending-half, receiving-half, half-answer, half-next, other-same, still-here, at-other}
 use Rattle.bridge.proofs.Begun.{start-here, start-leaves}

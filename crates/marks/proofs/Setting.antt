@@ -7,7 +7,7 @@ use lib.Dec.{eqb, ltb}
 use borrow.Author.Tests.{lt-ltb, le-ltb}
 use Rattle.psn.specs.Psn.{after, distance}
 use Rattle.row.specs.Row.{at, bits, Becomes, with-bit}
-use Rattle.marks.specs.Marks.{markable, Marks, offset, bit-of, markable-psn, MarksPsn}
+use Rattle.marks.specs.Marks.{markable, MarksBit, offset, bit-of, markable-psn, Marks}
 
 -- a bit joined where it may be, and where it may not
 joined : (a b c : Bool) → (a || b && true && c) ≡ (a || (b && c))
@@ -27,16 +27,16 @@ row-kept marked p may e = record { long = refl; bits-are = λ k. sym (ap (bit-th
 
 -- ---- a bit
 module _ (retired marked : List ℕ) (p : ℕ) where
-  marks-none : markable retired marked p ≡ false → Marks retired marked p marked 0
+  marks-none : markable retired marked p ≡ false → MarksBit retired marked p marked 0
   marks-none e = record { newly-is = sym (ap (λ (b : Bool). cond b 1 0) e); marked-are = row-kept marked p (markable retired marked p) e }
 
-  pub marks-retired : at retired p ≡ true → Marks retired marked p marked 0
+  pub marks-retired : at retired p ≡ true → MarksBit retired marked p marked 0
   marks-retired e = marks-none (ap (λ (b : Bool). not b && not (at marked p)) e)
 
-  pub marks-again : at marked p ≡ true → Marks retired marked p marked 0
+  pub marks-again : at marked p ≡ true → MarksBit retired marked p marked 0
   marks-again e = marks-none (ap (λ (b : Bool). not (at retired p) && not b) e ∙ and-false (not (at retired p)))
 
-  pub marks-new : at retired p ≡ false → at marked p ≡ false → (ws : List ℕ) → Becomes marked ws (with-bit marked p) → Marks retired marked p ws 1
+  pub marks-new : at retired p ≡ false → at marked p ≡ false → (ws : List ℕ) → Becomes marked ws (with-bit marked p) → MarksBit retired marked p ws 1
   marks-new r m ws set =
       let may : markable retired marked p ≡ true = rw (r, m) in
       record {
@@ -53,12 +53,12 @@ module _ (retired marked : List ℕ) (place n p i : ℕ) (is : i ≡ distance (a
   may-is b e =
       ap (λ (j : ℕ). ltb j n && markable retired marked (offset place + j)) (sym is) ∙ ap (λ (c : Bool). c && markable retired marked (offset place + i)) e
 
-  pub marks-past : n ≤ i → MarksPsn retired marked place n p marked 0
+  pub marks-past : n ≤ i → Marks retired marked place n p marked 0
   marks-past l =
       let none : markable-psn retired marked place n p ≡ false = may-is false (le-ltb i n l) in
       record { newly-is = sym (ap (λ (b : Bool). cond b 1 0) none); marked-are = row-kept marked (bit-of place p) _ none }
 
-  pub marks-among : i < n → (ws : List ℕ) (r : ℕ) → Marks retired marked (offset place + i) ws r → MarksPsn retired marked place n p ws r
+  pub marks-among : i < n → (ws : List ℕ) (r : ℕ) → MarksBit retired marked (offset place + i) ws r → Marks retired marked place n p ws r
   marks-among l ws r h =
       let same : markable-psn retired marked place n p ≡ markable retired marked (offset place + i) = may-is true (lt-ltb i n l) in
       record {

@@ -8,17 +8,17 @@ use Rattle.psn.specs.Psn.{after}
 use Rattle.row.specs.Row.{Becomes}
 use Rattle.row.proofs.Settled.{Words, becomes-settled}
 use Rattle.rules.specs.Numbers.{psn}
-use Rattle.marks.specs.Marks.{marked-at, Marks, MarksPsn, Finds, left-after, Takes}
+use Rattle.marks.specs.Marks.{marked-at, MarksBit, Marks, Finds, left-after, Takes}
 use Rattle.marks.specs.declared.Found.{Found}
 use Rattle.marks.specs.declared.Found.the-variants.{Marked, Nothing}
 
 pub mark-settled : (retired marked : List ℕ) (p : ℕ) (vs ws : List ℕ) (r s : ℕ)
-    → Words vs → Words ws → Marks retired marked p vs r → Marks retired marked p ws s → (vs ≡ ws) × (r ≡ s)
+    → Words vs → Words ws → MarksBit retired marked p vs r → MarksBit retired marked p ws s → (vs ≡ ws) × (r ≡ s)
 mark-settled retired marked p vs ws r s small small′ a b =
     (becomes-settled marked vs ws _ small small′ (a .marked-are) (b .marked-are), a .newly-is ∙ sym (b .newly-is))
 
 pub mark-psn-settled : (retired marked : List ℕ) (place n p : ℕ) (vs ws : List ℕ) (r s : ℕ)
-    → Words vs → Words ws → MarksPsn retired marked place n p vs r → MarksPsn retired marked place n p ws s → (vs ≡ ws) × (r ≡ s)
+    → Words vs → Words ws → Marks retired marked place n p vs r → Marks retired marked place n p ws s → (vs ≡ ws) × (r ≡ s)
 mark-psn-settled retired marked place n p vs ws r s small small′ a b =
     (becomes-settled marked vs ws _ small small′ (a .marked-are) (b .marked-are), a .newly-is ∙ sym (b .newly-is))
 

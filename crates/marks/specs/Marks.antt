@@ -15,7 +15,7 @@ use Rattle.marks.specs.declared.Found.the-variants.{Marked, Nothing}
 abbrev pub markable : List ℕ → List ℕ → ℕ → Bool
 markable retired marked p = not (at retired p) && not (at marked p)
 
-pub record Marks (retired marked : List ℕ) (p : ℕ) (marked′ : List ℕ) (newly : ℕ) : Type 0 where
+pub record MarksBit (retired marked : List ℕ) (p : ℕ) (marked′ : List ℕ) (newly : ℕ) : Type 0 where
   pub newly-is : newly ≡ cond (markable retired marked p) 1 0
   pub marked-are : Becomes marked marked′ (λ k. at marked k || eqb k p && markable retired marked p && ltb k (bits marked))
 
@@ -40,7 +40,7 @@ abbrev pub markable-psn : List ℕ → List ℕ → ℕ → ℕ → ℕ → Bool
 markable-psn retired marked place n p = ltb (distance (after place 1) p) n && markable retired marked (bit-of place p)
 
 -- "marks an outstanding, unretired PSN .. Behind place + 1, retired or already marked: 0"
-pub record MarksPsn (retired marked : List ℕ) (place n p : ℕ) (marked′ : List ℕ) (newly : ℕ) : Type 0 where
+pub record Marks (retired marked : List ℕ) (place n p : ℕ) (marked′ : List ℕ) (newly : ℕ) : Type 0 where
   pub newly-is : newly ≡ cond (markable-psn retired marked place n p) 1 0
   pub marked-are : Becomes marked marked′
       (λ k. at marked k || eqb k (bit-of place p) && markable-psn retired marked place n p && ltb k (bits marked))

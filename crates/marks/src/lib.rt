@@ -1,10 +1,10 @@
 // Marks for resending in lent rows of words: the rows begin at place + 1's own block of 64.
-ghost use Rattle.marks.specs.Marks.{Finds, Marks, MarksPsn, Reach, Takes};
+ghost use Rattle.marks.specs.Marks.{Finds, MarksBit, Marks, Reach, Takes};
 use psn::Psn;
 
 // A bit is marked if it is neither retired nor marked. How many became marked, 0 or 1.
 fn mark(retired: &[u64], marked: &mut [u64], p: u32) -> u8
-    ensures { λ r. ⌜ Marks (now (retired .entry)) (now (marked .entry)) p (now (marked .exit)) r ⌝ }
+    ensures { λ r. ⌜ MarksBit (now (retired .entry)) (now (marked .entry)) p (now (marked .exit)) r ⌝ }
 {
     if row::test(retired, p) {
         return 0;
@@ -19,7 +19,7 @@ fn mark(retired: &[u64], marked: &mut [u64], p: u32) -> u8
 // The bit of a packet number is marked if it is one of the n after the place, and neither retired nor marked. How many became marked, 0 or 1.
 pub fn mark_psn(retired: &[u64], marked: &mut [u64], place: Psn, n: u32, psn: Psn) -> u8
     requires { ⌜ Reach (place .0) n ⌝ }
-    ensures { λ r. ⌜ MarksPsn (now (retired .entry)) (now (marked .entry)) (place .0) n (psn .0) (now (marked .exit)) r ⌝ }
+    ensures { λ r. ⌜ Marks (now (retired .entry)) (now (marked .entry)) (place .0) n (psn .0) (now (marked .exit)) r ⌝ }
 {
     let i = place.after(1).distance(psn);
     if n <= i {

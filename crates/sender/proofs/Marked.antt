@@ -151,7 +151,7 @@ module _ (x : Sender) (h : Started x) (p : ℕ) where
           rw (le-ltb i (x .outstanding) (omega arith))
           (List·getD-eq-default t false (omega (arith, length-table (x .outstanding) (λ j. markable (entry x j)))))
 
-  module _ (ws : List ℕ) (n : ℕ) (rows : marks.MarksPsn (x .retired) (x .marked) (x .place .0) (x .outstanding) p ws n) where
+  module _ (ws : List ℕ) (n : ℕ) (rows : marks.Marks (x .retired) (x .marked) (x .place .0) (x .outstanding) p ws n) where
     long : length ws ≡ words
     long = rows .marked-are .long ∙ h .marked-long
 
