@@ -19,10 +19,10 @@ pub size-padded : (k : ℕ) → size (padded (widths k)) ≡ size (widths k)
 size-padded k = ap (λ (n : ℕ). n / 8) (sum-widths k)
 
 -- widths that the code has of a kind, with the bytes of its fields and as many values
-pub laid : (k : ℕ) (ws : List ℕ) (bytes values : ℕ) → kind-ok k ≡ true → ws ≡ padded (widths k) → size (widths k) ≤ bytes → values ≡ most
+pub laid : (k : ℕ) (ws : List ℕ) (bytes values : ℕ) → ws ≡ padded (widths k) → size (widths k) ≤ bytes → values ≡ most
     → Laid ws bytes values
-laid k ws bytes values known e h n =
-    rw e (record { layout = padded-laid k known; enough = rw (size-padded k) h; each = n ∙ sym (length-padded (widths k)) })
+laid k ws bytes values e h n =
+    rw e (record { layout = padded-laid k; enough = rw (size-padded k) h; each = n ∙ sym (length-padded (widths k)) })
 
 -- ---- reading
 decode-few : (k : ℕ) (l : List ℕ) → length (decode (widths k) l) ≤ most

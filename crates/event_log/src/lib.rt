@@ -1,11 +1,10 @@
 // The reader and the writer of the event log.
 ghost use mathlib.Core.Path.{_≡_};
-ghost use mathlib.Core.Bool.{true};
 ghost use mathlib.Core.List.{_++_};
 ghost use Prim.Native.Nat.{_+_, _≤_};
 ghost use lib.ListN.{length, drop};
 ghost use Rattle.rules.specs.Numbers.{longest-log};
-ghost use Rattle.rules.specs.Kinds.{kind-of, kind-ok};
+ghost use Rattle.rules.specs.Kinds.{kind-of};
 ghost use Rattle.rules.specs.Paper.{read-line};
 ghost use Rattle.rules.specs.Log.{body as body-of, encode, read as read-of, read-left, whole as whole-of};
 ghost use Rattle.event_log.specs.Parts.{Holds, Writes};
@@ -18,7 +17,6 @@ use rules::Written;
 
 // A record's whole length.
 fn whole(kind: u8) -> usize
-    requires { ⌜ kind-ok kind ≡ true ⌝ }
     ensures { λ r. ⌜ r ≡ whole-of kind ⌝ }
 {
     let widths = kinds::widths(kind);
@@ -27,7 +25,7 @@ fn whole(kind: u8) -> usize
 
 // The values of the fields of the record of this kind that the bytes r begin with.
 fn values(r: &[u8], kind: u8) -> [u64; FIELDS]
-    requires { ⌜ (kind-ok kind ≡ true) × (whole-of kind ≤ length (now r)) ⌝ }
+    requires { ⌜ whole-of kind ≤ length (now r) ⌝ }
     ensures { λ v. ⌜ Holds (now (r .entry)) kind v ⌝ }
 {
     let widths = kinds::widths(kind);

@@ -1,18 +1,18 @@
 -- The fields of a kind are at most as many as the code has room for, by a test of all layouts, and padded they are a layout still. And an
 -- event has as many fields as its kind. Assumes nothing.
 use mathlib.Core.Path.{_≡_, refl, ap, _∙_}
-use mathlib.Core.Bool.{Bool, true, _&&_}
-use mathlib.Core.List.{List, [], _∷_}
-use Prim.Native.Nat.{ℕ, zero, suc, _-_, _%_, _≤_}
+use mathlib.Core.Bool.{Bool}
+use mathlib.Core.List.{List, []}
+use Prim.Native.Nat.{ℕ, _-_, _%_, _≤_}
 use native.Mathlib.Omega.{arith}
 use borrow.Author.Tests.{leb-true}
 use lib.Dec.{leb}
 use lib.ListN.{length, getD, length-map}
 use Rattle.lists.specs.Lists.{sum}
-use Rattle.lists.proofs.Joined.{and-true-each}
+use Rattle.lists.proofs.Every.{every, every-at}
 use Rattle.fields.specs.Fields.{Layout}
 use Rattle.fields.proofs.Padding.{sum-padded}
-use Rattle.rules.specs.Kinds.{kind-of, fields-of, layouts, layout, width, widths, kind-ok}
+use Rattle.rules.specs.Kinds.{kind-of, fields-of, layouts, layout, width, widths}
 use Rattle.rules.specs.declared.Cell.{Cell}
 use Rattle.rules.specs.declared.Sending.the-variants as sending
 use Rattle.rules.specs.declared.Use.the-variants as use-of
@@ -22,23 +22,12 @@ use Rattle.rules.proofs.Cells.{laid}
 use Rattle.kinds.specs.Padded.{most, padded}
 use Rattle.kinds.proofs.Padded.{padded-is, padded-at}
 
--- what holds of each entry and of the default holds at every index
-all : {A : Type 0} → (A → Bool) → List A → Bool
-all f [] = true
-all f (a ∷ l) = f a && all f l
-
-all-at : {A : Type 0} (f : A → Bool) (l : List A) (d : A) → all f l ≡ true → f d ≡ true → (i : ℕ) → f (getD l i d) ≡ true
-unfolding all
-all-at f [] d h e i = e
-all-at f (a ∷ l) d h e zero = and-true-each (f a) (all f l) h .0
-all-at f (a ∷ l) d h e (suc i) = all-at f l d (and-true-each (f a) (all f l) h .1) e i
-
 few : List Cell → Bool
 few cs = leb (length cs) most
 
 pub few-cells : (k : ℕ) → length (layout k) ≤ most
-unfolding layout layouts all few
-few-cells k = leb-true (length (layout k)) most (all-at few layouts [] refl refl k)
+unfolding layout layouts every few
+few-cells k = leb-true (length (layout k)) most (every-at few layouts [] refl refl k)
 
 pub few-fields : (k : ℕ) → length (widths k) ≤ most
 unfolding widths
@@ -48,9 +37,9 @@ few-fields k = omega (arith, few-cells k, length-map (layout k) width)
 pub sum-widths : (k : ℕ) → sum (padded (widths k)) ≡ sum (widths k)
 sum-widths k = ap sum (padded-is (widths k) (few-fields k)) ∙ sum-padded (widths k) (most - length (widths k))
 
-pub padded-laid : (k : ℕ) → kind-ok k ≡ true → Layout (padded (widths k))
-padded-laid k known =
-    let y = laid k known in
+pub padded-laid : (k : ℕ) → Layout (padded (widths k))
+padded-laid k =
+    let y = laid k in
     record {
       whole = ap (λ (n : ℕ). n % 8) (sum-widths k) ∙ y .whole;
       narrow = λ i. rw (padded-at (widths k) (few-fields k)) (y .narrow i);

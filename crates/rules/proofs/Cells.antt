@@ -1,7 +1,7 @@
 -- The fields of a record by their cells: where no PSN is high they fit the record, and what a record holds fits an event and has no high
--- PSN. By induction on the cells. And the fields of every kind fill whole bytes, by a test of each. Assumes nothing.
+-- PSN. By induction on the cells. And the fields of every kind fill whole bytes, by a test of all. Assumes nothing.
 use mathlib.Core.Path.{_≡_, refl}
-use mathlib.Core.Bool.{true, false, _||_}
+use mathlib.Core.Bool.{Bool, false, _||_}
 use mathlib.Core.List.{List, [], _∷_, map}
 use Prim.Native.Nat.{ℕ, _^_, _<_}
 use native.Mathlib.Omega.{arith}
@@ -9,14 +9,14 @@ use borrow.Author.Tests.{leb-false, lt-leb}
 use lib.Dec.{leb}
 use Rattle.lists.specs.Lists.{sum}
 use Rattle.lists.proofs.Joined.{or-false-each}
+use Rattle.lists.proofs.Every.{every, every-at}
 use Rattle.fields.specs.Fields.{Fits, Layout}
 use Rattle.fields.proofs.Checked.{narrow, fine, checked}
 use Rattle.rules.specs.Numbers.{turn}
-use Rattle.rules.specs.Kinds.{layouts, layout, width, event-width, widths, kind-ok}
+use Rattle.rules.specs.Kinds.{layouts, layout, width, event-width, widths}
 use Rattle.rules.specs.Log.{high-cell, high-psn}
 use Rattle.rules.specs.declared.Cell.{Cell}
 use Rattle.rules.specs.declared.Cell.the-variants as cell
-use Rattle.rules.proofs.EventKinds.{Each, by-kind}
 
 -- an event whose PSNs are not high fits a record
 pub low-fits : (cs : List Cell) (vs : List ℕ) → Fits (map event-width cs) vs → high-psn cs vs ≡ false → Fits (map width cs) vs
@@ -46,6 +46,9 @@ fits-low (c ∷ cs) [] f = refl
 fits-low (cell.Psn ∷ cs) (v ∷ vs) f = rw (lt-leb turn v (f .0)) (fits-low cs vs (f .1))
 fits-low (cell.Bits n ∷ cs) (v ∷ vs) f = fits-low cs vs (f .1)
 
-pub laid : (k : ℕ) → kind-ok k ≡ true → Layout (widths k)
-unfolding widths layout layouts width fine narrow sum Each
-laid k o = checked (widths k) (by-kind (λ n. fine (widths n) ≡ true) (refl, (refl, (refl, (refl, (refl, (refl, (refl, (refl, tt)))))))) k o)
+fine-cells : List Cell → Bool
+fine-cells cs = fine (map width cs)
+
+pub laid : (k : ℕ) → Layout (widths k)
+unfolding widths layout layouts width fine narrow sum every fine-cells
+laid k = checked (widths k) (every-at fine-cells layouts [] refl refl k)

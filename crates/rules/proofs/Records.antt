@@ -41,7 +41,7 @@ unfolding encode widths event-widths
 encode-begins slot e after f h =
     let k = kind-of e in
     let again : fields.decode (widths k) (fields.encode (widths k) (fields-of e) ++ after) ≡ fields-of e =
-    round-trip.decode-encode (widths k) (fields-of e) after (laid k (known-kind e) .whole) (low-fits (layout k) (fields-of e) f h) in
+    round-trip.decode-encode (widths k) (fields-of e) after (laid k .whole) (low-fits (layout k) (fields-of e) f h) in
     record {
       head = refl;
       known = known-kind e;
@@ -78,7 +78,7 @@ module _ (l : List ℕ) (slot : ℕ) (e : Event) (kind : ℕ) (b : Begins l slot
       let t = drop 4 l in
       let n = size (widths kind) in
       let again : fields.encode (widths kind) values ≡ take n t =
-      round-trip.encode-decode (widths kind) t (laid kind (b .known) .whole) (bytes-drop 4 l h) (omega (arith, length-drop 4 l, b .room)) in
+      round-trip.encode-decode (widths kind) t (laid kind .whole) (bytes-drop 4 l h) (omega (arith, length-drop 4 l, b .room)) in
       let mark : take (whole kind) l ≡ 0x4D ∷ 0x52 ∷ kind ∷ slot ∷ take n t =
       ap (take (whole kind)) (b .head) ∙ take-append-add (0x4D ∷ 0x52 ∷ kind ∷ slot ∷ []) t n in
       simp (begins-kind, begins-fields, again, mark)

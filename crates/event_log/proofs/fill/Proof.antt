@@ -13,7 +13,6 @@ use Rattle.rules.specs.Numbers.{record-head}
 use Rattle.rules.specs.Kinds.{kind-of, fields-of, widths as widths-of, kind-ok}
 use Rattle.rules.specs.Log.{whole, encode}
 use Rattle.rules.specs.declared.Event.{Event}
-use Rattle.rules.proofs.EventKinds.{known-kind}
 use Rattle.rules.proofs.Records.{length-encode}
 use Rattle.kinds.specs.Padded.{padded}
 use Rattle.kinds.proofs.Padded.{length-padded}
@@ -48,7 +47,7 @@ module _ (b : List ℕ) (slot : ℕ) (e : Event) (k : ℕ) (ws v : List ℕ) (h 
   fields-laid : Laid ws (length (lent b k slot)) (length v)
   fields-laid =
       let long : size (widths-of k) ≤ length (lent b k slot) = rw (lent-is, h .kind-is) (omega (arith, length-drop record-head b, h .room)) in
-      laid k ws _ _ (ap kind-ok (h .kind-is) ∙ known-kind e) (h .widths-are) long (ap length (h .values-are) ∙ length-padded (fields-of e))
+      laid k ws _ _ (h .widths-are) long (ap length (h .values-are) ∙ length-padded (fields-of e))
 
   module _ (m : List ℕ) (w : m ≡ fields.encode ws v ++ drop (size ws) (lent b k slot)) where
     -- the fields, and the later bytes

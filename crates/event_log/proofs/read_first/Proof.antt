@@ -71,7 +71,7 @@ returns-4 : tie.Need-returns-4
 returns-4 c = sym (marked (c .before .before .before) ∙ simp (sym (c .before .known .ensures) ∙ not-true _ (c .if4 .taken)))
 
 whole-requires : tie.Need-whole-requires
-whole-requires c κs = known-is c
+whole-requires c κs = search needs
 
 returns-5 : tie.Need-returns-5
 returns-5 c =
@@ -83,7 +83,7 @@ shared-slice-read-t8 : tie.Need-shared-slice-read-t8
 shared-slice-read-t8 c = search needs
 
 values-requires : tie.Need-values-requires
-values-requires c κs = (known-is (c .before .before .before), omega (arith, c .before .if5 .left, c .before .before .whole .ensures))
+values-requires c κs = (omega (arith, c .before .if5 .left, c .before .before .whole .ensures))
 
 event-requires : tie.Need-event-requires
 event-requires c κs = (known-is (c .before .before .before .before), c .values .ensures .fit)

@@ -48,7 +48,7 @@ read-requires : tie.Need-read-requires
 read-requires c κs =
     let s = c .before .before .before .before .before in
     let a = s .args in
-    laid (a .kind) _ _ _ (s .pre .0) (c .before .before .before .widths .ensures) (enough (a .r .now) (a .kind) (s .pre .1)) refl
+    laid (a .kind) _ _ _ (c .before .before .before .widths .ensures) (enough (a .r .now) (a .kind) (s .pre)) refl
 
 returns : tie.Need-returns
 returns c =

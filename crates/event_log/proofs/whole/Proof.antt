@@ -22,10 +22,10 @@ slice-aggregate-size : tie.Need-slice-aggregate-size
 slice-aggregate-size c = search needs
 
 size-requires : tie.Need-size-requires
-size-requires c κs = rw (c .before .widths .ensures) (padded-laid (c .before .before .args .kind) (c .before .before .pre))
+size-requires c κs = rw (c .before .widths .ensures) (padded-laid (c .before .before .args .kind))
 
 add-result : tie.Need-add-result
-add-result c = omega (arith, size-is c, laid (c .before .before .before .args .kind) (c .before .before .before .pre) .short)
+add-result c = omega (arith, size-is c, laid (c .before .before .before .args .kind) .short)
 
 returns : tie.Need-returns
 returns c = ap (λ (n : ℕ). record-head + n) (size-is c)

@@ -12,7 +12,6 @@ use Rattle.rules.specs.Log.{whole, encode, write as write-of, written}
 use Rattle.rules.specs.declared.Event.{Event}
 use Rattle.rules.specs.declared.Written.{Written}
 use Rattle.rules.specs.declared.Written.the-variants.{Length}
-use Rattle.rules.proofs.EventKinds.{known-kind}
 use Rattle.rules.proofs.Writing.{writable-write}
 use Rattle.event_log.specs.Parts.{Writes}
 use Rattle.event_log.proofs.write.Statement.{statement}
@@ -37,7 +36,7 @@ kind-requires : tie.Need-kind-requires
 kind-requires c κs = search needs
 
 whole-requires : tie.Need-whole-requires
-whole-requires c κs = rw (c .kind .ensures) (known-kind (c .before .before .before .before .args .event))
+whole-requires c κs = search needs
 
 returns-2 : tie.Need-returns-2
 unfolding write-of written

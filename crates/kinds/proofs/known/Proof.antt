@@ -14,7 +14,7 @@ returns-2 : tie.Need-returns-2
 unfolding layouts
 returns-2 c =
     let k = c .before .args .kind in
-    sym (rw (le-leb 1 k (omega (arith, c .if1 .left))) (leb·suc-suc k 8))
+    sym (rw (le-leb 1 k (omega (arith, c .if1 .left))) (leb·suc-suc k _))
 
 pub known-spec : {M : Type 1} → statement M
 known-spec = tie.close (tie.spec returns returns-2)
