@@ -66,7 +66,7 @@ after-sack x cack b = settle x (retire (named x cack b) (x .entries))
 unfoldable pub report : Sender → ℕ → Block → Answer
 report x cack b =
     let y = after-sack x cack b in
-    answer.Retired (record { newly = newly (named x cack b) (x .entries); place = psn (y .place); held = held y })
+    answer.Retired (newly (named x cack b) (x .entries)) (psn (y .place)) (held y)
 
 unfoldable pub acknowledged : Sender → ℕ → Block → Outcome Answer Sender
 acknowledged x cack b = Done (after-sack x cack b) (report x cack b)

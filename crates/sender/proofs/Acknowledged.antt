@@ -351,8 +351,8 @@ module _ (x : Sender) (cack : ℕ) (b : Block) (R″ M″ : List ℕ) (out : Mov
     unfolding meaning
     place-is = ap (λ (y : rule.Sender). y .place) acknowledged-means
 
-    pub acknowledged-reports : answer.Retired (record { newly = out .newly; place = now; held = x .held - out .bytes }) ≡ report (meaning x) cack b
+    pub acknowledged-reports : answer.Retired (out .newly) now (x .held - out .bytes) ≡ report (meaning x) cack b
     unfolding report
     acknowledged-reports =
         let held-after : x .held - out .bytes ≡ held (after-sack (meaning x) cack b) = held-is ∙ sym (held-total acknowledged) ∙ ap held acknowledged-means in
-        λ i. answer.Retired (record { newly = newly-is i; place = psn (place-is i); held = held-after i })
+        λ i. answer.Retired (newly-is i) (psn (place-is i)) (held-after i)

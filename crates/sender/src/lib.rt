@@ -13,7 +13,6 @@ use rules::Answer;
 use rules::Block;
 use rules::LARGEST_ROOM;
 use rules::Opening;
-use rules::Report;
 use rules::Sending;
 use rules::WORDS;
 
@@ -271,11 +270,11 @@ impl Sender {
         let held = self.held - out.bytes;
         let now = place.after(out.by);
         Stepped {
-            answer: Answer::Retired(Report {
+            answer: Answer::Retired {
                 newly: out.newly,
                 place: now,
                 held,
-            }),
+            },
             record: Sender {
                 room: self.room,
                 place: now,

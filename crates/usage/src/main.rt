@@ -21,7 +21,11 @@ fn heard(near: Connection, reply: Answer) -> u32
             let out = near.step(Use::Sends(Sending::Sack { cack, block }));
             let answer = out.answer;
             match answer {
-                Answer::Retired(report) => report.newly,
+                Answer::Retired {
+                    newly,
+                    place: _,
+                    held: _,
+                } => newly,
                 _ => 0,
             }
         }

@@ -47,8 +47,8 @@ sub-held c = bytes-le _ _ _ _ _ _ (rows (c .before .before .before .before))
 after-requires : tie.Need-after-requires
 after-requires c κs = search needs
 
-sub-t20 : tie.Need-sub-t20
-sub-t20 c = c .before .before .before .before .before .before .acknowledge .ensures .moved .within
+sub-t19 : tie.Need-sub-t19
+sub-t19 c = c .before .before .before .before .before .before .acknowledge .ensures .moved .within
 
 returns : tie.Need-returns
 unfolding acknowledged
@@ -68,5 +68,5 @@ acknowledge-spec =
     acknowledge-requires
     sub-held
     after-requires
-    sub-t20
+    sub-t19
     returns)
