@@ -1,12 +1,14 @@
 -- 01, From the bench: the starred cases, and L, as one table. A case asks for events on a fresh connection, for a log's records or
 -- for its answers, and has the lines that come back.
 use mathlib.Core.Path.{_≡_}
+use mathlib.Core.Bool.{false}
 use mathlib.Core.List.{List, [], _∷_, map}
 use Prim.Native.Nat.{ℕ, zero, suc, _^_}
-use lib.ListN.{length}
+use lib.ListN.{length, replicate}
 use Rattle.promise.specs.Line.{Line, refused, done}
 use Rattle.promise.specs.Outcome.{left}
 use Rattle.rules.specs.Numbers.{psn}
+use Rattle.rules.specs.Receiver.{Receiver, accept}
 use Rattle.rules.specs.Receiving.{Arrive}
 use Rattle.rules.specs.Connection.{Connection, empty, start, step}
 use Rattle.rules.specs.Kinds.{plain}
@@ -18,12 +20,14 @@ use Rattle.rules.specs.declared.Use.{Use}
 use Rattle.rules.specs.declared.Use.the-variants.{Sends, Receives}
 use Rattle.rules.specs.declared.Read.the-variants.{Record, Nothing}
 
--- a row's name on the bench: R1 to R6, S1 to S5, what is given before the first, and what follows the last: a SACK that comes late
+-- a row's name on the bench: R1 to R6, S1 to S5, what is given before the first, and what follows the last: a SACK that comes late; and
+-- a NACK's reason, which no line of a log shows
 pub data Label : Type 0 where
   R : ℕ → Label
   S : ℕ → Label
   Given : Label
   Late : Label
+  Reason : ℕ → Label
 
 -- an event on the bench's connection, and the line that comes back
 pub record Row : Type 0 where
@@ -84,9 +88,12 @@ expected (Answers log l) = l
 abbrev pub row : Label → Use → Line → Row
 row l e t = record { label = l; asked = e; told = t }
 
--- an arrival of 100 bytes with no flags
+-- an arrival of 100 bytes with these flags, and with none
+abbrev pub flagged : ℕ → ℕ → Use
+flagged flags p = Receives (Arrive (record { psn = psn p; size = 100; flags = flags; entropy = 7 }))
+
 abbrev pub arrives : ℕ → Use
-arrives p = Receives (Arrive (record { psn = psn p; size = 100; flags = 0; entropy = 7 }))
+arrives p = flagged 0 p
 
 abbrev pub sacks : ℕ → ℕ → ℕ → Use
 sacks cack base bitmap = Sends (Sack (psn cack) (record { base = psn base; bitmap = bitmap }))
@@ -111,6 +118,16 @@ receiving =
     ∷ row (R 5) (arrives 64) (nacked 2 64 3)
     ∷ row (R 6) (arrives 8388607) (nacked 2 8388607 3)
     ∷ row (R 6) (arrives 8388608) (acked 1 16777215 0 (2 ^ 63) 1)
+    ∷ []
+
+-- each reason as the sending side takes it, "1 TRIM, 2 TRIM_LASTHOP, 3 NO_BITMAP, 4 NO_PKT_BUFFER": trimmed, trimmed at the last hop,
+-- beyond the window, no buffer
+abbrev pub reasons : List Row
+reasons =
+    row (Reason 1) (flagged 4 16777214) (nacked 4 16777214 1)
+    ∷ row (Reason 2) (flagged 8 16777214) (nacked 5 16777214 2)
+    ∷ row (Reason 3) (arrives 62) (nacked 2 62 3)
+    ∷ row (Reason 4) (flagged 16 16777214) (nacked 3 16777214 4)
     ∷ []
 
 -- "four sends of 100", S1 to S5, and then a SACK whose cack is behind the place: "its set bits still count"
@@ -151,9 +168,15 @@ abbrev pub answers-L : List Line
 answers-L = done 1 [] [] ∷ done 3 (10 ∷ []) [] ∷ acked 0 10 11 0 0 ∷ done 0 (3 ∷ []) [] ∷ []
 
 abbrev pub cases : List Case
-cases = Events receiving ∷ Events sending ∷ Records log-L reading-L ∷ Answers log-L answers-L ∷ []
+cases = Events receiving ∷ Events reasons ∷ Events sending ∷ Records log-L reading-L ∷ Answers log-L answers-L ∷ []
 
--- the one claim: each case is answered as it says. "Whole lengths: 14, 4, 6, 14, 18, 8, 7, 4" stands beside it.
+-- a receiver whose count is the last before "a 32-bit count of bytes that wraps"
+abbrev pub nearly-wrapped : Receiver
+nearly-wrapped = record { expected = 0; window = replicate 64 false; count = 4294967295 }
+
+-- the one claim: each case is answered as it says. "Whole lengths: 14, 4, 6, 14, 18, 8, 7, 4" stands beside it, and the count that 100
+-- bytes leave there.
 pub record Starred : Type 0 where
   pub as-worked : map told cases ≡ map expected cases
+  pub count-wraps : accept nearly-wrapped (record { psn = psn 0; size = 100; flags = 0; entropy = 7 }) .count ≡ 99
   pub lengths : map whole (1 ∷ 2 ∷ 3 ∷ 4 ∷ 5 ∷ 6 ∷ 7 ∷ 8 ∷ []) ≡ 14 ∷ 4 ∷ 6 ∷ 14 ∷ 18 ∷ 8 ∷ 7 ∷ 4 ∷ []
