@@ -78,14 +78,10 @@ impl Receiver {
         requires { ⌜ Sound self ⌝ }
         ensures { λ r. ⌜ Steps self (arrive-of (meaning self) a) r ⌝ }
     {
-        let room = self.room;
-        if room == 0 {
-            return self.refused(2);
-        }
         let expected = self.expected;
         let mut words = self.words;
         let head = Head {
-            room,
+            room: self.room,
             expected,
             count: self.count,
         };

@@ -1,6 +1,7 @@
 -- The entries of a receiver's window are bits of its words: which packets are known, and which beyond. Assumes nothing.
 use mathlib.Core.Path.{_≡_, sym, ap, _∙_}
 use mathlib.Core.Bool.{true, false, _||_, or-true}
+use mathlib.Core.Logic.{⊎-elim}
 use Prim.Native.Nat.{ℕ, _≤_, _<_}
 use native.Mathlib.Omega.{arith}
 use lib.Dec.{leb}
@@ -11,8 +12,7 @@ use Rattle.rules.specs.Numbers.{half, distance}
 use Rattle.rules.specs.Receiver.{room, unused, known, beyond, verdict}
 use Rattle.rules.specs.declared.Arrival.{Arrival}
 use Rattle.rules.specs.declared.Verdict.the-variants.{Fresh}
-use Rattle.rules.proofs.Allowed.{room-numbers}
-use Rattle.receiving.specs.Lent.{Lent, accepted, meaning, Started}
+use Rattle.receiving.specs.Lent.{Lent, accepted, meaning, Started, Sound}
 use Rattle.receiving.proofs.Ways.{fresh-reachable}
 
 module _ (x : Lent) where
@@ -23,8 +23,12 @@ module _ (x : Lent) where
   pub is-unused : x .head .room ≡ 0 → unused (meaning x) ≡ true
   is-unused e = eq-eqb (room (meaning x)) 0 (room-is ∙ e)
 
-  pub is-used : Started x → unused (meaning x) ≡ false
-  is-used h = ne-eqb (room (meaning x)) 0 (λ e. omega (arith, room-is, room-numbers (x .head .room) (h .room-good)))
+  pub is-used : (x .head .room ≡ 0 → ⊥) → unused (meaning x) ≡ false
+  is-used h = ne-eqb (room (meaning x)) 0 (λ e. h (sym room-is ∙ e))
+
+  -- a record in use was started
+  pub in-use : Sound x → (x .head .room ≡ 0 → ⊥) → Started x
+  in-use s n = ⊎-elim (λ e. absurd (n (ap (λ (y : Lent). y .head .room) e))) (λ h. h) s
 
   entry : (d : ℕ) → d < x .head .room → getD (meaning x .window) d false ≡ accepted x d
   unfolding meaning

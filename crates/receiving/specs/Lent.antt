@@ -2,11 +2,12 @@
 use mathlib.Core.Path.{_≡_}
 use mathlib.Core.Bool.{Bool, true, false}
 use mathlib.Core.List.{List}
+use mathlib.Core.Logic.{_⊎_}
 use Prim.Native.Nat.{ℕ, _+_, _*_, _%_, _≤_, _<_}
-use lib.ListN.{length}
+use lib.ListN.{length, replicate}
 use Rattle.lists.specs.Index.{table}
 use Rattle.row.specs.Row.{at}
-use Rattle.rules.specs.Numbers.{turn, room-ok}
+use Rattle.rules.specs.Numbers.{turn, psn, room-ok}
 use Rattle.promise.specs.Promise.{Meets}
 use Rattle.rules.specs.Receiver.{Receiver, accept}
 use Rattle.rules.specs.Receiving.{arrive}
@@ -43,6 +44,17 @@ pub record Started (x : Lent) : Type 0 where
   pub expected-open : at (x .words) (offset x) ≡ false
   pub past : (p : ℕ) → offset x + x .head .room ≤ p → at (x .words) p ≡ false
 
+-- the record of no connection over n words: all zero
+abbrev pub empty : ℕ → Lent
+empty n = lent (record { room = 0; expected = psn 0; count = 0 }) (replicate n 0)
+
+abbrev pub Empty : Lent → Type 0
+Empty x = x ≡ empty (length (x .words))
+
+-- "A record is empty (all zero) or comes from a start and the events after it"
+abbrev pub Sound : Lent → Type 0
+Sound x = Empty x ⊎ Started x
+
 -- an arrival that is fresh leaves the rule's next record
 pub record Accepts (x : Lent) (a : Arrival) (y : Lent) : Type 0 where
   pub started : Started y
@@ -50,4 +62,4 @@ pub record Accepts (x : Lent) (a : Arrival) (y : Lent) : Type 0 where
 
 -- an arrival is answered r, and the words after it are ws
 abbrev pub Arrives : Lent → Arrival → Stepped → List ℕ → Type 0
-Arrives x a r ws = Meets paper Started meaning x (arrive (meaning x) a) (r .answer) (lent (r .«record») ws)
+Arrives x a r ws = Meets paper Sound meaning x (arrive (meaning x) a) (r .answer) (lent (r .«record») ws)

@@ -3,7 +3,7 @@
 ghost use mathlib.Core.Path.{_≡_};
 ghost use Rattle.rules.specs.Receiver.{nack-of, reason-of, sack-of, verdict};
 ghost use Rattle.rules.specs.declared.Verdict.the-variants.{Fresh};
-ghost use Rattle.receiving.specs.Lent.{lent, meaning, Started, Accepts, Arrives};
+ghost use Rattle.receiving.specs.Lent.{lent, meaning, Started, Sound, Accepts, Arrives};
 use psn::HALF;
 use psn::Psn;
 use psn::TURN;
@@ -147,11 +147,14 @@ impl Head {
         }
     }
 
-    // An arrival at a receiver that was started, over lent words.
+    // An arrival, over lent words.
     pub fn arrive(self, words: &mut [u64], a: Arrival) -> Stepped
-        requires { ⌜ Started (lent self (now words)) ⌝ }
+        requires { ⌜ Sound (lent self (now words)) ⌝ }
         ensures { λ r. ⌜ Arrives (lent self (now (words .entry))) a r (now (words .exit)) ⌝ }
     {
+        if self.room == 0 {
+            return self.refused(2);
+        }
         let psn = a.psn;
         if !allowed::psn_ok(psn) {
             return self.refused(5);

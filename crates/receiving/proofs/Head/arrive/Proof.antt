@@ -3,6 +3,7 @@
 use mathlib.Core.Path.{_≡_, refl, sym, ap, ap₂, _∙_}
 use mathlib.Core.Bool.{true, not}
 use mathlib.Core.List.{[], _∷_}
+use mathlib.Core.Logic.{inr}
 use Prim.Native.Nat.{ℕ}
 use types.Run.{miss}
 use borrow.Author.Needs.{needs}
@@ -16,8 +17,8 @@ use Rattle.rules.specs.declared.Answer.the-variants as answer
 use Rattle.rules.proofs.Settled.{on-refusal}
 use Rattle.receiving.specs.declared.Head.{Head}
 use Rattle.receiving.specs.declared.Stepped.{Stepped}
-use Rattle.receiving.specs.Lent.{Lent, lent, meaning, Arrives}
-use Rattle.receiving.proofs.Entries.{is-used}
+use Rattle.receiving.specs.Lent.{Lent, lent, meaning, Started, Arrives}
+use Rattle.receiving.proofs.Entries.{is-unused, is-used, in-use}
 use Rattle.receiving.proofs.Ways.{judged-nack}
 use Rattle.receiving.proofs.Head.arrive.Statement.{statement}
 use Rattle.receiving.proofs.Head.arrive.Tie as tie
@@ -39,34 +40,43 @@ refused-by e i p t r said =
     returns-at (tests e) (judged x a (verdict x a)) refl i p t (on-refusal (said .0)) (ap (λ (h : Head). lent h (e .args .words .now)) (said .1)) (e .pre)
 
 -- the entry, from where each test was passed, and from where the verdict is known
-abbrev from-psn : tie.Else1 → tie.Start
-from-psn c = c .before .before .before .before
+abbrev from-room : tie.Else1 → tie.Start
+from-room c = c .before .before .before
 
-abbrev from-size : tie.Else2 → tie.Start
+abbrev from-psn : tie.Else2 → tie.Start
+from-psn c = from-room (c .before .before .before)
+
+abbrev from-size : tie.Else3 → tie.Start
 from-size c = from-psn (c .before .before)
 
-abbrev from-flags : tie.Else3 → tie.Start
+abbrev from-flags : tie.Else4 → tie.Start
 from-flags c = from-size (c .before .before)
 
 abbrev from-verdict : tie.After-judge → tie.Start
 from-verdict c = from-flags (c .before .before)
 
 -- the tests that were passed
-past-unused : (e : tie.Start) → Past (tests e) 1
+past-room : (c : tie.Else1) → Past (tests (from-room c)) 1
 unfolding arrive-refusals test Past
-past-unused e = past (tests e) 0 tt (is-used (lent-at e) (e .pre))
+past-room c = past (tests (from-room c)) 0 tt (is-used (lent-at (from-room c)) (c .if1 .left))
 
-past-psn : (c : tie.Else1) → Past (tests (from-psn c)) 2
+past-psn : (c : tie.Else2) → Past (tests (from-psn c)) 2
 unfolding arrive-refusals test
-past-psn c = past (tests (from-psn c)) 1 (past-unused (from-psn c)) (ap not (sym (c .before .psn-ok .ensures)) ∙ c .if1 .left)
+past-psn c = past (tests (from-psn c)) 1 (past-room (c .before .before .before)) (ap not (sym (c .before .psn-ok .ensures)) ∙ c .if2 .left)
 
-past-size : (c : tie.Else2) → Past (tests (from-size c)) 3
+past-size : (c : tie.Else3) → Past (tests (from-size c)) 3
 unfolding arrive-refusals test
-past-size c = past (tests (from-size c)) 2 (past-psn (c .before .before)) (ap not (sym (c .before .size-ok .ensures)) ∙ c .if2 .left)
+past-size c = past (tests (from-size c)) 2 (past-psn (c .before .before)) (ap not (sym (c .before .size-ok .ensures)) ∙ c .if3 .left)
 
-past-flags : (c : tie.Else3) → Past (tests (from-flags c)) 4
+past-flags : (c : tie.Else4) → Past (tests (from-flags c)) 4
 unfolding arrive-refusals test
-past-flags c = past (tests (from-flags c)) 3 (past-size (c .before .before)) (ap not (sym (c .before .flags-ok .ensures)) ∙ c .if3 .left)
+past-flags c = past (tests (from-flags c)) 3 (past-size (c .before .before)) (ap not (sym (c .before .flags-ok .ensures)) ∙ c .if4 .left)
+
+-- past the first of them the receiver was started
+started : (c : tie.Else4) → Started (lent-at (from-flags c))
+started c =
+    let room = c .before .before .before .before .before .before .before in
+    in-use (lent-at (from-room room)) (from-room room .pre) (room .if1 .left)
 
 -- none is left
 passes : (c : tie.After-judge) → let e = from-verdict c in
@@ -85,21 +95,17 @@ not-fresh c e = miss (1 ∷ 2 ∷ 3 ∷ 4 ∷ 5 ∷ []) 0 tt (rw e at (c .match 
 not-known : (c : tie.At-match2-keys2) → c .before .before .judge .result ≡ Known → ⊥
 not-known c e = miss (0 ∷ 2 ∷ 3 ∷ 4 ∷ 5 ∷ []) 1 tt (rw e at (c .match2 .keys2))
 
-psn-ok-requires : tie.Need-psn-ok-requires
-psn-ok-requires c κs = search needs
-
 refused-requires : tie.Need-refused-requires
 refused-requires c κs = search needs
 
 returns : tie.Need-returns
-unfolding arrive-refusals test number
+unfolding arrive-refusals test number Past
 returns c =
-    let e = c .before .before .before .before .before in
-    let psn = c .before .before .psn-ok in
-    refused-by e 1 (past-unused e) (ap not (sym (psn .ensures)) ∙ c .before .if1 .taken) (c .refused .result) (c .refused .ensures)
+    let e = c .before .before .before .before in
+    refused-by e 0 tt (is-unused (lent-at e) (c .before .if1 .taken)) (c .refused .result) (c .refused .ensures)
 
-size-ok-requires : tie.Need-size-ok-requires
-size-ok-requires c κs = search needs
+psn-ok-requires : tie.Need-psn-ok-requires
+psn-ok-requires c κs = search needs
 
 refused-requires-2 : tie.Need-refused-requires-2
 refused-requires-2 c κs = search needs
@@ -107,12 +113,12 @@ refused-requires-2 c κs = search needs
 returns-2 : tie.Need-returns-2
 unfolding arrive-refusals test number
 returns-2 c =
-    let p = c .before .before .before in
-    let size = c .before .before .size-ok in
-    refused-by (from-psn p) 2 (past-psn p) (ap not (sym (size .ensures)) ∙ c .before .if2 .taken) (c .refused2 .result) (c .refused2 .ensures)
+    let p = c .before .before .before .before in
+    let psn = c .before .before .psn-ok in
+    refused-by (from-room p) 1 (past-room p) (ap not (sym (psn .ensures)) ∙ c .before .if2 .taken) (c .refused2 .result) (c .refused2 .ensures)
 
-flags-ok-requires : tie.Need-flags-ok-requires
-flags-ok-requires c κs = search needs
+size-ok-requires : tie.Need-size-ok-requires
+size-ok-requires c κs = search needs
 
 refused-requires-3 : tie.Need-refused-requires-3
 refused-requires-3 c κs = search needs
@@ -120,12 +126,25 @@ refused-requires-3 c κs = search needs
 returns-3 : tie.Need-returns-3
 unfolding arrive-refusals test number
 returns-3 c =
+    let p = c .before .before .before in
+    let size = c .before .before .size-ok in
+    refused-by (from-psn p) 2 (past-psn p) (ap not (sym (size .ensures)) ∙ c .before .if3 .taken) (c .refused3 .result) (c .refused3 .ensures)
+
+flags-ok-requires : tie.Need-flags-ok-requires
+flags-ok-requires c κs = search needs
+
+refused-requires-4 : tie.Need-refused-requires-4
+refused-requires-4 c κs = search needs
+
+returns-4 : tie.Need-returns-4
+unfolding arrive-refusals test number
+returns-4 c =
     let z = c .before .before .before in
     let flags = c .before .before .flags-ok in
-    refused-by (from-size z) 3 (past-size z) (ap not (sym (flags .ensures)) ∙ c .before .if3 .taken) (c .refused3 .result) (c .refused3 .ensures)
+    refused-by (from-size z) 3 (past-size z) (ap not (sym (flags .ensures)) ∙ c .before .if4 .taken) (c .refused4 .result) (c .refused4 .ensures)
 
 judge-requires : tie.Need-judge-requires
-judge-requires c κs = search needs
+judge-requires c κs = started (c .before)
 
 enum-told : tie.Need-enum-told
 enum-told c = search needs
@@ -133,7 +152,7 @@ enum-told c = search needs
 accept-requires : tie.Need-accept-requires
 accept-requires c κs =
     let v = c .before .before .before in
-    (from-verdict v .pre, sym (v .judge .ensures) ∙ c .before .enum-told .given .1)
+    (started (v .before .before), sym (v .judge .ensures) ∙ c .before .enum-told .given .1)
 
 sack-requires : tie.Need-sack-requires
 sack-requires c κs = search needs
@@ -141,9 +160,9 @@ sack-requires c κs = search needs
 same-length : tie.Need-same-length
 same-length c = search needs
 
-returns-4 : tie.Need-returns-4
+returns-5 : tie.Need-returns-5
 unfolding judged
-returns-4 c =
+returns-5 c =
     let accepted = c .before .before .before .before .accept .ensures in
     let told = c .before .before .before .before .before .before in
     let fresh = told .enum-told .given .1 in
@@ -153,20 +172,20 @@ returns-4 c =
     let r = meaning (lent-at e) in
     let sack = c .sack .ensures ∙ ap (λ (s : Receiver). sack-of s a) (accepted .accepted-is) in
     does (accept r a) (answer.Acked Fresh (sack-of (accept r a) a)) (passes v ∙ ap (judged r a) fresh) (ap₂ answer.Acked fresh sack)
-    (accepted .accepted-is) (accepted .started)
+    (accepted .accepted-is) (inr (accepted .started))
 
 enum-told-2 : tie.Need-enum-told-2
 enum-told-2 c = search needs
 
 sack-requires-2 : tie.Need-sack-requires-2
-sack-requires-2 c κs = search needs
+sack-requires-2 c κs = started (c .before .before .before .before .before .before)
 
 same-length-2 : tie.Need-same-length-2
 same-length-2 c = search needs
 
-returns-5 : tie.Need-returns-5
+returns-6 : tie.Need-returns-6
 unfolding judged
-returns-5 c =
+returns-6 c =
     let known = c .before .before .enum-told2 .given .1 in
     let v = c .before .before .before .before .before in
     let e = from-verdict v in
@@ -180,8 +199,8 @@ nack-requires c κs = search needs
 same-length-3 : tie.Need-same-length-3
 same-length-3 c = search needs
 
-returns-6 : tie.Need-returns-6
-returns-6 c =
+returns-7 : tie.Need-returns-7
+returns-7 c =
     let m = c .before in
     let v = m .before .before in
     let e = from-verdict v in
@@ -194,25 +213,27 @@ pub arrive-spec : {M : Type 1} → statement M
 arrive-spec =
     tie.close
     (tie.spec
-    psn-ok-requires
     refused-requires
     returns
-    size-ok-requires
+    psn-ok-requires
     refused-requires-2
     returns-2
-    flags-ok-requires
+    size-ok-requires
     refused-requires-3
     returns-3
+    flags-ok-requires
+    refused-requires-4
+    returns-4
     judge-requires
     enum-told
     accept-requires
     sack-requires
     same-length
-    returns-4
+    returns-5
     enum-told-2
     sack-requires-2
     same-length-2
-    returns-5
+    returns-6
     nack-requires
     same-length-3
-    returns-6)
+    returns-7)
