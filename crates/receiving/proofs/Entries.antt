@@ -30,11 +30,11 @@ module _ (x : Lent) where
   pub in-use : Sound x → (x .head .room ≡ 0 → ⊥) → Started x
   in-use s n = ⊎-elim (λ e. absurd (n (ap (λ (y : Lent). y .head .room) e))) (λ h. h) s
 
-  entry : (d : ℕ) → d < x .head .room → getD (meaning x .window) d false ≡ accepted x d
+  pub entry : (d : ℕ) → d < x .head .room → getD (meaning x .window) d false ≡ accepted x d
   unfolding meaning
   entry d h = getD-table (x .head .room) (accepted x) d false h
 
-  entry-past : (d : ℕ) → x .head .room ≤ d → getD (meaning x .window) d false ≡ false
+  pub entry-past : (d : ℕ) → x .head .room ≤ d → getD (meaning x .window) d false ≡ false
   entry-past d h = List·getD-eq-default (meaning x .window) false (omega (arith, room-is))
 
   -- packet p at distance d

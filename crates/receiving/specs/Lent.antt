@@ -61,5 +61,7 @@ pub record Accepts (x : Lent) (a : Arrival) (y : Lent) : Type 0 where
   pub accepted-is : meaning y ≡ accept (meaning x) a
 
 -- an arrival is answered r, and the words after it are ws
-abbrev pub Arrives : Lent → Arrival → Stepped → List ℕ → Type 0
-Arrives x a r ws = Meets paper Sound meaning x (arrive (meaning x) a) (r .answer) (lent (r .«record») ws)
+pub record Arrives (x : Lent) (a : Arrival) (r : Stepped) (ws : List ℕ) : Type 0 where
+  pub meets : Meets paper Sound meaning x (arrive (meaning x) a) (r .answer) (lent (r .«record») ws)
+  -- the words are as many as before
+  pub long : length ws ≡ length (x .words)

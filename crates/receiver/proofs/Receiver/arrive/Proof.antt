@@ -35,7 +35,7 @@ arrive-requires c κs =
 
 returns : tie.Need-returns
 returns c =
-    let m = c .before .before .before .arrive .ensures in
+    let m = c .before .before .before .arrive .ensures .meets in
     record {
       answer-is = m .answer-is;
       record-is = m .record-is;

@@ -37,7 +37,11 @@ unfolding arrive
 refused-by e i p t r said =
     let x = meaning (lent-at e) in
     let a = e .args .a in
-    returns-at (tests e) (judged x a (verdict x a)) refl i p t (on-refusal (said .0)) (ap (λ (h : Head). lent h (e .args .words .now)) (said .1)) (e .pre)
+    record {
+      meets = returns-at (tests e) (judged x a (verdict x a)) refl i p t (on-refusal (said .0)) (ap (λ (h : Head). lent h (e .args .words .now)) (said .1))
+          (e .pre);
+      long = refl;
+    }
 
 -- the entry, from where each test was passed, and from where the verdict is known
 abbrev from-room : tie.Else1 → tie.Start
@@ -171,8 +175,11 @@ returns-5 c =
     let a = e .args .a in
     let r = meaning (lent-at e) in
     let sack = c .sack .ensures ∙ ap (λ (s : Receiver). sack-of s a) (accepted .accepted-is) in
-    does (accept r a) (answer.Acked Fresh (sack-of (accept r a) a)) (passes v ∙ ap (judged r a) fresh) (ap₂ answer.Acked fresh sack)
-    (accepted .accepted-is) (inr (accepted .started))
+    record {
+      meets = does (accept r a) (answer.Acked Fresh (sack-of (accept r a) a)) (passes v ∙ ap (judged r a) fresh) (ap₂ answer.Acked fresh sack)
+          (accepted .accepted-is) (inr (accepted .started));
+      long = search needs;
+    }
 
 enum-told-2 : tie.Need-enum-told-2
 enum-told-2 c = search needs
@@ -191,7 +198,10 @@ returns-6 c =
     let e = from-verdict v in
     let a = e .args .a in
     let r = meaning (lent-at e) in
-    does r (answer.Acked Known (sack-of r a)) (passes v ∙ ap (judged r a) known) (ap₂ answer.Acked known (c .sack2 .ensures)) refl (e .pre)
+    record {
+      meets = does r (answer.Acked Known (sack-of r a)) (passes v ∙ ap (judged r a) known) (ap₂ answer.Acked known (c .sack2 .ensures)) refl (e .pre);
+      long = refl;
+    }
 
 nack-requires : tie.Need-nack-requires
 nack-requires c κs = search needs
@@ -207,7 +217,11 @@ returns-7 c =
     let a = e .args .a in
     let r = meaning (lent-at e) in
     let o = passes v ∙ judged-nack r a (v .judge .result) (not-fresh (m .before)) (not-known m) in
-    does r (answer.Nacked (v .judge .result) (nack-of (v .judge .result) a)) o (ap (answer.Nacked (v .judge .result)) (c .nack .ensures)) refl (e .pre)
+    record {
+      meets = does r (answer.Nacked (v .judge .result) (nack-of (v .judge .result) a)) o (ap (answer.Nacked (v .judge .result)) (c .nack .ensures)) refl
+          (e .pre);
+      long = refl;
+    }
 
 pub arrive-spec : {M : Type 1} → statement M
 arrive-spec =
