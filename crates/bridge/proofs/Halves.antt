@@ -1,11 +1,9 @@
--- What an event on a table does to the two halves of a slot's connection, whichever side it is of: that half goes by its own rule, and the
--- other stays. In another slot both stay. Assumes nothing.
-use mathlib.Core.Path.{_≡_, refl, ap, _∙_, subst}
+-- What an event on a table does to the two halves of its slot's connection, whichever side it is of: that half goes by its own rule, and the
+-- other stays. Assumes nothing.
+use mathlib.Core.Path.{_≡_, refl, ap, _∙_}
 use mathlib.Core.Bool.{false}
 use mathlib.Core.List.{List}
-use mathlib.Core.Logic.{_≢_}
 use Prim.Native.Nat.{ℕ, _<_}
-use native.Mathlib.Decide.{ℕ-discrete}
 use lib.ListN.{length, set}
 use lib.Seq.{getD-set-same}
 use Rattle.promise.specs.Outcome.{Outcome, Refused, Done, left, within}
@@ -94,10 +92,6 @@ pub still-here : (t : List Connection) (slot : ℕ) (e : Event) (i : ℕ) → ou
 unfolding outside
 still-here t slot e i h = rw (elsewhere t slot e .holds .long) h
 
--- a slot that is not named
-pub at-other : (t : List Connection) (slot : ℕ) (e : Event) (i : ℕ) → i ≢ slot → at (left t (on t slot e)) i ≡ at t i
-at-other t slot e i h = elsewhere t slot e .holds .same i h
-
 -- ---- an event of a half
 module _ {P Q E : Type 0} (H : Half P Q E) (t : List Connection) (i : ℕ) (here : outside t i ≡ false) (e : E) where
   abbrev named : Event
@@ -126,14 +120,5 @@ module _ {P Q E : Type 0} (H : Half P Q E) (t : List Connection) (i : ℕ) (here
   pub half-next : H .mine (at (left t (on t i named)) i) ≡ left (H .mine c) (H .law (H .mine c) e)
   half-next = ap (H .mine) half-record ∙ left-half (H .law (H .mine c) e) .0
 
-  half-same : H .other (at (left t (on t i named)) i) ≡ H .other c
+  pub half-same : H .other (at (left t (on t i named)) i) ≡ H .other c
   half-same = ap (H .other) half-record ∙ left-half (H .law (H .mine c) e) .1
-
--- in whatever slot an event of this half is, the other half of slot i stays
-pub other-same : {P Q E : Type 0} (H : Half P Q E) (t : List Connection) (i : ℕ) → outside t i ≡ false → (slot : ℕ) (e : E)
-    → H .other (at (left t (on t slot (event.Use (H .event-of e)))) i) ≡ H .other (at t i)
-other-same H t i here slot e = go (ℕ-discrete i slot)
-  where
-    go : Dec (i ≡ slot) → H .other (at (left t (on t slot (event.Use (H .event-of e)))) i) ≡ H .other (at t i)
-    go (yes p) = subst (λ (k : ℕ). H .other (at (left t (on t k (event.Use (H .event-of e)))) i) ≡ H .other (at t i)) p (half-same H t i here e)
-    go (no p) = ap (H .other) (at-other t slot (event.Use (H .event-of e)) i p)

@@ -47,9 +47,9 @@ module _ (log : List ℕ) where
   went x r (Nothing n) rest l last b h e k = absurd (false≢true (sym (b .more-is) ∙ h))
   went x r (Record slot e kind next) rest l last b h f k =
       let moved = read-kind log (x .place) slot e kind next f in
-      let answer-is = answer-is-rule (b .answer-meets) in
+      let answer-is = answer-is-rule (b .answer-meets .meets) in
       let falls : to-go log (r .state) < to-go log x = omega (arith, b .place-is, moved .1, moved .2) in
-      ap₂ then (λ i. record { kind = b .kind-is i; answer = answer-is i }) (k falls ∙ ap₂ rest (b .answer-meets .record-is) (b .place-is))
+      ap₂ then (λ i. record { kind = b .kind-is i; answer = answer-is i }) (k falls ∙ ap₂ rest (b .answer-meets .meets .record-is) (b .place-is))
 
   counted : (x : State) (r : Turn) (v : Read) → By x r v → r .more ≡ true → r .state .count ≡ suc (x .count)
   unfolding By

@@ -5,8 +5,8 @@ use Prim.Native.Nat.{ℕ}
 use Rattle.rules.specs.Log.{read}
 use Rattle.rules.specs.declared.Read.{Read}
 use Rattle.rules.specs.declared.Read.the-variants.{Record, Nothing}
-use Rattle.rules.proofs.Settled.{settled}
 use Rattle.table.specs.Slots.{meaning}
+use Rattle.table.proofs.Settled.{event-settled}
 use Rattle.player.specs.declared.State.{State}
 use Rattle.player.specs.declared.Turn.{Turn}
 use Rattle.player.specs.Play.{begin, By, Turned}
@@ -23,15 +23,16 @@ pub record Same (r s : Turn) : Type 0 where
 same : (x : State) (r s : Turn) (v : Read) → By x r v → By x s v → Same r s
 unfolding By
 same x r s (Record slot e kind next) p q =
-    let both = settled (r .answer) (s .answer) (r .state .table .slots) (s .state .table .slots) (p .answer-meets) (q .answer-meets) in
+    let both =
+    event-settled (x .table .slots) slot e (r .answer) (s .answer) (r .state .table .slots) (s .state .table .slots) (p .answer-meets) (q .answer-meets) in
     record {
       more-same = p .more-is ∙ sym (q .more-is);
       kind-same = p .kind-is ∙ sym (q .kind-is);
-      answer-same = both .0;
+      answer-same = both .answer-same;
       stop-same = p .stop-is ∙ sym (q .stop-is);
       place-same = p .place-is ∙ sym (q .place-is);
       count-same = p .count-is ∙ sym (q .count-is);
-      table-same = both .1;
+      table-same = both .means-same;
     }
 same x r s (Nothing n) p q =
     let state-same = p .state-is ∙ sym (q .state-is) in

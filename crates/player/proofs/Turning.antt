@@ -35,7 +35,7 @@ unfolding By
 turned-on log x r slot e kind next s h g = record {
   by-rule = subst (By x r) (sym h) g;
   sound = record {
-    slots-sound = g .answer-meets .sound;
+    slots-sound = g .answer-meets .meets .sound;
     count-low = omega (arith, g .place-is, g .count-is, count-behind log (x .place) (x .count) slot e kind next h (s .count-low));
   };
 }

@@ -1,8 +1,10 @@
--- Each public function's promise settles its outcome: any two results that it allows are equal in answer and meaning. Assumes nothing.
+-- Each public function's promise settles its outcome: any two results that it allows are equal in answer and meaning, and to the last bit
+-- in every slot that is not named. Assumes nothing.
 use mathlib.Core.Path.{_≡_, sym, _∙_}
 use mathlib.Core.List.{List}
+use mathlib.Core.Logic.{_≢_}
 use Prim.Native.Nat.{ℕ}
-use lib.ListN.{length, replicate}
+use lib.ListN.{length, getD, replicate}
 use Rattle.rules.specs.Numbers.{slots}
 use Rattle.rules.specs.declared.Answer.{Answer}
 use Rattle.rules.specs.declared.Event.{Event}
@@ -13,14 +15,22 @@ use Rattle.table.specs.declared.Stepped.{Stepped}
 use Rattle.table.specs.declared.Table.{Table}
 use Rattle.table.specs.Slots.{On, meaning}
 
+-- what any two of them share: the answer, what the table means, and every slot but the one that is named
+pub record Same (slot : ℕ) (a b : Answer) (u v : List Connection) : Type 0 where
+  pub answer-same : a ≡ b
+  pub means-same : meaning u ≡ meaning v
+  pub elsewhere-same : (i : ℕ) → i ≢ slot → getD u i empty ≡ getD v i empty
+
 pub event-settled : (t : List Connection) (slot : ℕ) (e : Event) (a b : Answer) (u v : List Connection) → On t slot e a u → On t slot e b v
-    → (a ≡ b) × (meaning u ≡ meaning v)
-event-settled t slot e a b u v = settled a b u v
+    → Same slot a b u v
+event-settled t slot e a b u v p q =
+    let both = settled a b u v (p .meets) (q .meets) in
+    record { answer-same = both .0; means-same = both .1; elsewhere-same = λ i n. p .elsewhere i n ∙ sym (q .elsewhere i n) }
 
 pub on-settled : (t : Table) (slot : ℕ) (e : Event) (r s : Stepped) → On (t .slots) slot e (r .answer) (r .«record» .slots)
     → On (t .slots) slot e (s .answer) (s .«record» .slots)
-    → (r .answer ≡ s .answer) × (meaning (r .«record» .slots) ≡ meaning (s .«record» .slots))
-on-settled t slot e r s = settled (r .answer) (s .answer) (r .«record» .slots) (s .«record» .slots)
+    → Same slot (r .answer) (s .answer) (r .«record» .slots) (s .«record» .slots)
+on-settled t slot e r s = event-settled (t .slots) slot e (r .answer) (s .answer) (r .«record» .slots) (s .«record» .slots)
 
 -- a table emptied, lent or by value, is settled to the last word
 pub empty-all-settled : (t u v : List Connection) → u ≡ replicate (length t) empty → v ≡ replicate (length t) empty → u ≡ v

@@ -7,7 +7,7 @@ use mathlib.Core.Logic.{inl}
 use Prim.Native.Nat.{ℕ, zero, suc, _≤_, _<_}
 use lib.Dec.{leb}
 use lib.ListN.{length, getD, set, replicate, length-map, List·getD-map}
-use lib.Seq.{getD-set-same, set-getD}
+use lib.Seq.{getD-set-same, getD-set-other, set-getD}
 use borrow.Author.Tests.{le-leb, lt-leb}
 use Rattle.promise.specs.Outcome.{Done, within}
 use Rattle.promise.proofs.Refusing.{Past, test, number, none-left}
@@ -47,7 +47,11 @@ module _ (t : List Connection) (slot : ℕ) (e : Event) (all : AllSound t) where
   outside-refuses : outside (meaning t) slot ≡ true → On t slot e (answer.Refused 1) t
   unfolding on on-refusals test number Past
   outside-refuses o =
-      returns-at (on-refusals (meaning t) slot) (within (set (meaning t) slot) (in-slot (at (meaning t) slot) e)) refl 0 tt o (on-refusal refl) refl all
+      let does = within (set (meaning t) slot) (in-slot (at (meaning t) slot) e) in
+      record {
+        meets = returns-at (on-refusals (meaning t) slot) does refl 0 tt o (on-refusal refl) refl all;
+        elsewhere = λ i n. refl;
+      }
 
   pub past-sixteen : slots ≤ slot → On t slot e (answer.Refused 1) t
   unfolding outside
@@ -66,9 +70,12 @@ module _ (t : List Connection) (slot : ℕ) (e : Event) (all : AllSound t) where
       let inside : outside (meaning t) slot ≡ false = rw (lt-leb slots slot small, long t, lt-leb (length t) slot short) in
       let here : on (meaning t) slot e ≡ within (set (meaning t) slot) (in-slot c e) =
       none-left (on-refusals (meaning t) slot) _ (inside, tt) ∙ ap (λ d. within (set (meaning t) slot) (in-slot d e)) (at-means t slot) in
-      rw here
-      (part (set t slot) (set (meaning t) slot) t (getD t slot empty) (in-slot c e) (r .answer) (r .«record»)
-      (set-getD t slot empty) (λ q. map-set connection.meaning t slot q) m (all-set Sound empty t slot (r .«record») all (m .sound)))
+      record {
+        meets = rw here
+            (part (set t slot) (set (meaning t) slot) t (getD t slot empty) (in-slot c e) (r .answer) (r .«record»)
+            (set-getD t slot empty) (λ q. map-set connection.meaning t slot q) m (all-set Sound empty t slot (r .«record») all (m .sound)));
+        elsewhere = λ i n. getD-set-other t slot i (r .«record») empty n;
+      }
 
 -- ---- a table that is emptied
 empty-slots : (n : ℕ) → meaning (replicate n empty) ≡ replicate n rule.empty
@@ -86,4 +93,4 @@ empty-sound n slot = inl (getD-alike empty n slot)
 -- the one premise of an event is met after any calls
 pub reached-sound : {t : List Connection} → Reached t → AllSound t
 reached-sound (emptied n) = empty-sound n
-reached-sound (after-event r slot e a u m) = m .sound
+reached-sound (after-event r slot e a u m) = m .meets .sound

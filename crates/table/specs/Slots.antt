@@ -1,5 +1,7 @@
 -- A table of connections: what it means, and which there are.
+use mathlib.Core.Path.{_≡_}
 use mathlib.Core.List.{List, map}
+use mathlib.Core.Logic.{_≢_}
 use Prim.Native.Nat.{ℕ}
 use lib.ListN.{getD, replicate}
 use Rattle.promise.specs.Promise.{Meets}
@@ -20,8 +22,10 @@ abbrev pub AllSound : List Connection → Type 0
 AllSound t = (slot : ℕ) → Sound (getD t slot empty)
 
 -- an event on a slot of the table t may answer a and leave the table u
-abbrev pub On : List Connection → ℕ → Event → Answer → List Connection → Type 0
-On t slot e a u = Meets paper AllSound meaning t (on (meaning t) slot e) a u
+pub record On (t : List Connection) (slot : ℕ) (e : Event) (a : Answer) (u : List Connection) : Type 0 where
+  pub meets : Meets paper AllSound meaning t (on (meaning t) slot e) a u
+  -- every other slot is the very record that it was
+  pub elsewhere : (i : ℕ) → i ≢ slot → getD u i empty ≡ getD t i empty
 
 -- "a call of its own first empties every slot lent": the tables that it and any events after it leave
 pub data Reached : List Connection → Type 0 where
