@@ -23,7 +23,7 @@ use Rattle.rules.specs.declared.Sack.{Sack}
 use Rattle.rules.specs.declared.Verdict.the-variants.{Fresh, Known}
 use Rattle.delivery.specs.Wire.{Packet, Fate, arrival, Reply, Acks, hearing, accepts, message, Note, base-number, Near, Readable}
 use Rattle.delivery.specs.Network.{Start, Sides, Worlds, size-of, with-sender, with-receiver, acceptance, reply, on-arrive}
-use Rattle.delivery.specs.Network.{still, sends, resends, timers, hears, arrives, beside-sender, beside-receiver}
+use Rattle.delivery.specs.Network.{still, then}
 use Rattle.delivery.specs.Network as network
 use Rattle.delivery.specs.Rules.{rules, World, Run}
 use Rattle.delivery.specs.Promise.{among, plain}
@@ -39,15 +39,9 @@ use Rattle.delivery.proofs.Invariant.{Told, Inv, not-yet, not-ahead, in
 use Rattle.delivery.proofs.Order.{plain-arrives}
 
 -- a run from where another ends
-then : {n : Sides} {u v w : Worlds n} → network.Run n u v → network.Run n v w → network.Run n u w
-then r still = r
-then r (sends q z a x g) = sends (then r q) z a x g
-then r (resends q a x g) = resends (then r q) a x g
-then r (timers q p a x g) = timers (then r q) p a x g
-then r (hears q m t h a x g) = hears (then r q) m t h a x g
-then r (arrives q p t h f a y g) = arrives (then r q) p t h f a y g
-then r (beside-sender q x g) = beside-sender (then r q) x g
-then r (beside-receiver q y g) = beside-receiver (then r q) y g
+joined : {n : Sides} {u v w : Worlds n} → network.Run n u v → network.Run n v w → network.Run n u w
+joined r still = r
+joined r (then q e) = then (joined r q) e
 
 -- the same packets, and the place further on
 record Onward (w v : World) : Type 0 where
@@ -181,7 +175,7 @@ module _ {s : Start} {w : World} (I : Inv s w) (p : Packet) (there : List·Mem�
       let H = hear-on J (K .note) (K .there) (K .accepting) (K .answer) (K .reply-is) (omega (arith, K .here-is, low, K .low-same)) in (
         rule-hear u (K .note),
         record {
-          further = then run (H .further);
+          further = joined run (H .further);
           same-packets = H .same-packets ∙ K .sent-same;
           moved = omega (arith, H .moved, K .low-same);
         },
@@ -200,7 +194,7 @@ ends (suc n) w I h = elim (decLt (w .low) (length (w .sent))) [
       let N = onward I (O .packet) (O .there) (O .number-is) in
       let M = N .1 in
       let E = ends n (N .0) (inv-run I (M .further)) (omega (arith, M .moved, ap length (M .same-packets))) in
-      (E .0, record { further = then (M .further) (E .1 .further); same-packets = E .1 .same-packets ∙ M .same-packets; all-retired = E .1 .all-retired })
+      (E .0, record { further = joined (M .further) (E .1 .further); same-packets = E .1 .same-packets ∙ M .same-packets; all-retired = E .1 .all-retired })
 ]
 
 pub can-end : CanEnd

@@ -9,7 +9,8 @@ use Rattle.rules.specs.Receiving.{arrive}
 use Rattle.rules.specs.Receiving as receiving
 use Rattle.rules.specs.Sending.{send, timer, resend, step}
 use Rattle.delivery.specs.Wire.{Packet, Fate, arrival, Reply, hearing, Note, Near, Readable}
-use Rattle.delivery.specs.Network.{with-sender, on-send, on-resend, on-arrive, sends, resends, timers, hears, arrives}
+use Rattle.delivery.specs.Network.{with-sender, on-send, on-resend, on-arrive}
+use Rattle.delivery.specs.Network.{sends, resends, timers, hears, arrives, then}
 use Rattle.delivery.specs.Rules.{given, rules, World, Run}
 
 unfoldable pub rule-send : World → ℕ → World
@@ -43,20 +44,20 @@ noted w l i r = record {
 module _ {v w : World} (r : Run v w) where
   pub run-send : (z : ℕ) → Run v (rule-send w z)
   unfolding rule-send step
-  run-send z = sends r z _ _ given
+  run-send z = then r (sends z _ _ given)
 
   pub run-resend : Run v (rule-resend w)
   unfolding rule-resend step
-  run-resend = resends r _ _ given
+  run-resend = then r (resends _ _ given)
 
   pub run-timer : (p : ℕ) → Run v (rule-timer w p)
   unfolding rule-timer step
-  run-timer p = timers r p _ _ given
+  run-timer p = then r (timers p _ _ given)
 
   pub run-hear : (n : Note) → List·Memᴰ n (w .notes) → Readable (w .low) n (n .reply) → Run v (rule-hear w n)
   unfolding rule-hear
-  run-hear n there h = hears r n there h _ _ given
+  run-hear n there h = then r (hears n there h _ _ given)
 
   pub run-arrive : (p : Packet) → List·Memᴰ p (w .wire) → Near (p .number) (w .at) → (f : Fate) → Run v (rule-arrive w p f)
   unfolding rule-arrive receiving.step
-  run-arrive p there near f = arrives r p there near f _ _ given
+  run-arrive p there near f = then r (arrives p there near f _ _ given)

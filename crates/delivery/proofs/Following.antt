@@ -15,7 +15,7 @@ use Rattle.rules.specs.declared.Sending.the-variants as sending
 use Rattle.delivery.specs.Wire.{Packet, Fate, arrival, hearing, Message, Silent, Goes, Replies, message, Note, Near, Readable}
 use Rattle.delivery.specs.Network.{Start, opening, Side, Sides, Worlds, meant, begin, put, reply}
 use Rattle.delivery.specs.Network.{with-sender, with-receiver, on-send, again, on-resend, on-arrive}
-use Rattle.delivery.specs.Network.{Run, still, sends, resends, timers, hears, arrives, beside-sender, beside-receiver}
+use Rattle.delivery.specs.Network.{Next, sends, resends, timers, hears, arrives, beside-sender, beside-receiver, Run, still, then}
 use Rattle.delivery.specs.Rules.{rules}
 use Rattle.delivery.specs.Rules as ours
 use Rattle.delivery.specs.Promise.{Kept as Keeping, Keep}
@@ -154,32 +154,32 @@ module _ {n m : Sides} (F : Following n m) where
     unfolding on-send
     then-sends z a x g =
         let h = sender-steps w (sending.Send z) a x (R .kept) g in
-        goes-on _ _ (send-meant w x z a) (sends (R .run) z a _ (h .0)) (put-kept (with-sender n w x) _ _ (message a) (h .1))
+        goes-on _ _ (send-meant w x z a) (then (R .run) (sends z a _ (h .0))) (put-kept (with-sender n w x) _ _ (message a) (h .1))
 
     then-resends : (a : Answer) (x : n .sender .State) → n .sender .Steps (w .sending) sending.Resend a x → Followed v (on-resend n w a x)
     unfolding on-resend
     then-resends a x g =
         let h = sender-steps w sending.Resend a x (R .kept) g in
-        goes-on _ _ (resend-meant w x a) (resends (R .run) a _ (h .0)) (put-kept (with-sender n w x) _ _ (message a) (h .1))
+        goes-on _ _ (resend-meant w x a) (then (R .run) (resends a _ (h .0))) (put-kept (with-sender n w x) _ _ (message a) (h .1))
 
     then-timers : (p : ℕ) (a : Answer) (x : n .sender .State) → n .sender .Steps (w .sending) (sending.Timer (psn p)) a x → Followed v (with-sender n w x)
     then-timers p a x g =
         let h = sender-steps w (sending.Timer (psn p)) a x (R .kept) g in
-        goes-on _ _ (sender-meant w x) (timers (R .run) p a _ (h .0)) (h .1)
+        goes-on _ _ (sender-meant w x) (then (R .run) (timers p a _ (h .0))) (h .1)
 
     then-hears : (k : Note) → List·Memᴰ k (w .notes) → Readable (w .low) k (k .reply) → (a : Answer) (x : n .sender .State)
         → n .sender .Steps (w .sending) (hearing (k .reply)) a x → Followed v (with-sender n w x)
     unfolding meant
     then-hears k there near a x g =
         let h = sender-steps w (hearing (k .reply)) a x (R .kept) g in
-        goes-on _ _ (sender-meant w x) (hears (R .run) k there near a _ (h .0)) (h .1)
+        goes-on _ _ (sender-meant w x) (then (R .run) (hears k there near a _ (h .0))) (h .1)
 
     then-arrives : (p : Packet) → List·Memᴰ p (w .wire) → Near (p .number) (w .at) → (f : Fate) (a : Answer) (r : n .receiver .State)
         → n .receiver .Steps (w .receiving) (Arrive (arrival p f)) a r → Followed v (on-arrive n w p a r)
     unfolding meant on-arrive
     then-arrives p there near f a r g =
         let h = receiver-steps w (Arrive (arrival p f)) a r (R .kept) g in
-        goes-on _ _ (arrive-meant w r p a) (arrives (R .run) p there near f a _ (h .0)) (reply-kept (with-receiver n w r) (p .number) (message a) (h .1))
+        goes-on _ _ (arrive-meant w r p a) (then (R .run) (arrives p there near f a _ (h .0))) (reply-kept (with-receiver n w r) (p .number) (message a) (h .1))
 
     then-beside-sender : (x : n .sender .State) → n .sender .Beside (w .sending) x → Followed v (with-sender n w x)
     then-beside-sender x g =
@@ -191,15 +191,18 @@ module _ {n m : Sides} (F : Following n m) where
         let h = F .receiver .beside (w .receiving) r (R .kept .of-receiver) g in
         goes-on _ _ (beside-receiver-meant w r (h .0)) (R .run) (with-receiver-kept w r (R .kept) (h .1))
 
+    then-next : {u : Worlds n} → Next n w u → Followed v u
+    then-next (sends z a x g) = then-sends z a x g
+    then-next (resends a x g) = then-resends a x g
+    then-next (timers p a x g) = then-timers p a x g
+    then-next (hears k there near a x g) = then-hears k there near a x g
+    then-next (arrives p there near f a q g) = then-arrives p there near f a q g
+    then-next (beside-sender x g) = then-beside-sender x g
+    then-next (beside-receiver q g) = then-beside-receiver q g
+
   pub follows : {v w : Worlds n} → Kept v → Run n v w → Followed v w
   follows K still = record { run = still; kept = K }
-  follows K (sends r z a x g) = then-sends (follows K r) z a x g
-  follows K (resends r a x g) = then-resends (follows K r) a x g
-  follows K (timers r p a x g) = then-timers (follows K r) p a x g
-  follows K (hears r k there near a x g) = then-hears (follows K r) k there near a x g
-  follows K (arrives r p there near f a q g) = then-arrives (follows K r) p there near f a q g
-  follows K (beside-sender r x g) = then-beside-sender (follows K r) x g
-  follows K (beside-receiver r q g) = then-beside-receiver (follows K r) q g
+  follows K (then r e) = then-next (follows K r) e
 
 -- ---- demand 3, of any two sides that follow the rules
 module _ {n : Sides} (F : Following n rules) (s : Start) (x : n .sender .State) (r : n .receiver .State)

@@ -35,7 +35,7 @@ use Rattle.promise.proofs.Refusing.{Past, through}
 use Rattle.promise.proofs.Outcomes.{After, after-unless, after-done}
 use Rattle.delivery.specs.Wire.{Packet, Fate, arrival, Reply, Acks, Nacks, hearing, Goes, accepts, message, Note, Near, Readable}
 use Rattle.delivery.specs.Network.{Start, with-sender, put, on-send, size-of, again, on-resend, with-receiver, acceptance, reply, on-arrive}
-use Rattle.delivery.specs.Network.{still, sends, resends, timers, hears, arrives, beside-sender, beside-receiver}
+use Rattle.delivery.specs.Network.{Next, sends, resends, timers, hears, arrives, beside-sender, beside-receiver, still, then}
 use Rattle.delivery.specs.Network as network
 use Rattle.delivery.specs.Rules.{given, rules, World, Run, begin}
 use Rattle.delivery.specs.Promise.{among, Once}
@@ -339,16 +339,20 @@ module _ {s : Start} {w : World} (I : Inv s w) where
         let P : Outcome Answer Receiver → Type 0 = λ o. Inv s (reply (with-receiver rules w (left (w .receiving) o)) (p .number) (message (answered o))) in
         through P _ _ (λ _. inv-unread) (λ _. inv-judged (verdict (w .receiving) (arrival p f)) refl)
 
-pub inv-run : {s : Start} {v w : World} → Inv s v → Run v w → Inv s w
+-- ---- so each event keeps it
+pub inv-next : {s : Start} {w u : World} → Inv s w → Next rules w u → Inv s u
 unfolding rule-send rule-resend rule-timer rule-hear rule-arrive step receiving.step
+inv-next I (sends z a x given) = inv-send I z
+inv-next I (resends a x given) = inv-resend I
+inv-next I (timers p a x given) = inv-timer I p
+inv-next I (hears n m h a x given) = inv-hear I n m h
+inv-next I (arrives p m h f a q given) = inv-arrive I p (I .carried p m) h f
+inv-next I (beside-sender x e) = absurd e
+inv-next I (beside-receiver q e) = absurd e
+
+pub inv-run : {s : Start} {v w : World} → Inv s v → Run v w → Inv s w
 inv-run I still = I
-inv-run I (sends r z a x given) = inv-send (inv-run I r) z
-inv-run I (resends r a x given) = inv-resend (inv-run I r)
-inv-run I (timers r p a x given) = inv-timer (inv-run I r) p
-inv-run I (hears r n m h a x given) = inv-hear (inv-run I r) n m h
-inv-run I (arrives r p m h f a q given) = let J = inv-run I r in inv-arrive J p (J .carried p m) h f
-inv-run I (beside-sender r x e) = absurd e
-inv-run I (beside-receiver r q e) = absurd e
+inv-run I (then r e) = inv-next (inv-run I r) e
 
 pub invariant : {s : Start} {w : World} → Run (begin s) w → Inv s w
 invariant {s} r = inv-run (inv-begin s) r

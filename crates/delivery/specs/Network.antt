@@ -156,19 +156,21 @@ module _ (n : Sides) where
   unfoldable pub on-arrive : Worlds → Packet → Answer → n .receiver .State → Worlds
   on-arrive w p a r = reply (with-receiver w r) (p .number) (message a)
 
--- what can happen from a world v on, "whatever the order", any number of times. Loss is never being read.
+-- one event. Loss is never being read.
+pub data Next (n : Sides) (w : Worlds n) : Worlds n → Type 0 where
+  sends : (z : ℕ) (a : Answer) (x : n .sender .State) → n .sender .Steps (w .sending) (sending.Send z) a x → Next n w (on-send n w z a x)
+  resends : (a : Answer) (x : n .sender .State) → n .sender .Steps (w .sending) sending.Resend a x → Next n w (on-resend n w a x)
+  timers : (p : ℕ) (a : Answer) (x : n .sender .State)
+      → n .sender .Steps (w .sending) (sending.Timer (psn p)) a x → Next n w (with-sender n w x)
+  hears : (m : Note) → List·Memᴰ m (w .notes) → Readable (w .low) m (m .reply) → (a : Answer) (x : n .sender .State)
+      → n .sender .Steps (w .sending) (hearing (m .reply)) a x → Next n w (with-sender n w x)
+  arrives : (p : Packet) → List·Memᴰ p (w .wire) → Near (p .number) (w .at) → (f : Fate) (a : Answer) (r : n .receiver .State)
+      → n .receiver .Steps (w .receiving) (Arrive (arrival p f)) a r → Next n w (on-arrive n w p a r)
+  -- anything else around either side
+  beside-sender : (x : n .sender .State) → n .sender .Beside (w .sending) x → Next n w (with-sender n w x)
+  beside-receiver : (r : n .receiver .State) → n .receiver .Beside (w .receiving) r → Next n w (with-receiver n w r)
+
+-- what can happen from a world v on: events, "whatever the order", any number of times
 pub data Run (n : Sides) (v : Worlds n) : Worlds n → Type 0 where
   still : Run n v v
-  sends : {w : Worlds n} → Run n v w → (z : ℕ) (a : Answer) (x : n .sender .State)
-      → n .sender .Steps (w .sending) (sending.Send z) a x → Run n v (on-send n w z a x)
-  resends : {w : Worlds n} → Run n v w → (a : Answer) (x : n .sender .State)
-      → n .sender .Steps (w .sending) sending.Resend a x → Run n v (on-resend n w a x)
-  timers : {w : Worlds n} → Run n v w → (p : ℕ) (a : Answer) (x : n .sender .State)
-      → n .sender .Steps (w .sending) (sending.Timer (psn p)) a x → Run n v (with-sender n w x)
-  hears : {w : Worlds n} → Run n v w → (m : Note) → List·Memᴰ m (w .notes) → Readable (w .low) m (m .reply) → (a : Answer) (x : n .sender .State)
-      → n .sender .Steps (w .sending) (hearing (m .reply)) a x → Run n v (with-sender n w x)
-  arrives : {w : Worlds n} → Run n v w → (p : Packet) → List·Memᴰ p (w .wire) → Near (p .number) (w .at) → (f : Fate) (a : Answer) (r : n .receiver .State)
-      → n .receiver .Steps (w .receiving) (Arrive (arrival p f)) a r → Run n v (on-arrive n w p a r)
-  -- anything else around either side
-  beside-sender : {w : Worlds n} → Run n v w → (x : n .sender .State) → n .sender .Beside (w .sending) x → Run n v (with-sender n w x)
-  beside-receiver : {w : Worlds n} → Run n v w → (r : n .receiver .State) → n .receiver .Beside (w .receiving) r → Run n v (with-receiver n w r)
+  then : {w u : Worlds n} → Run n v w → Next n w u → Run n v u
