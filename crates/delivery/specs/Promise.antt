@@ -65,6 +65,9 @@ pub record Promise (s : Start) (w : World) : Type 0 where
   pub place-is : w .sending .place ≡ before (after (s .first) (w .low))
   pub next-is : w .low + outstanding (w .sending) ≡ length (w .sent)
   pub expected-is : w .receiving .expected ≡ after (s .first) (w .at)
+  -- and the expected PSN is that of the first packet not accepted
+  pub accepted-before : (i : ℕ) → i < w .at → among (w .accepted) i ≡ true
+  pub expected-open : among (w .accepted) (w .at) ≡ false
   -- "no packet is accepted twice"
   pub once : Once (w .accepted)
   -- "nothing is retired unaccepted": neither what lies before place + 1 nor what is retired ahead of it
