@@ -51,3 +51,12 @@ size-of-older z l i h = rw (ne-eqb (length l) i (omega arith))
 pub size-of-newest : (z : ℕ) (l : List ℕ) → size-of (z ∷ l) (length l) ≡ z
 unfolding size-of
 size-of-newest z l = rw (eq-eqb (length l) (length l) refl)
+
+-- the sizes sent are good
+pub size-sent : (l : List ℕ) (i : ℕ) → Sizes l → i < length l → size-ok (size-of l i) ≡ true
+unfolding All
+size-sent [] i k h = absurd (omega arith)
+size-sent (z ∷ l) i k h = elim (ℕ-discrete i (length l)) [
+  | yes e ↦ ap (λ (j : ℕ). size-ok (size-of (z ∷ l) j)) e ∙ ap size-ok (size-of-newest z l) ∙ k .0
+  | no e ↦ ap size-ok (size-of-older z l i (omega arith)) ∙ size-sent l i (k .1) (omega arith)
+]

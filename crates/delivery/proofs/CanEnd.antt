@@ -5,7 +5,7 @@ use mathlib.Core.Bool.{Bool, true, false}
 use mathlib.Core.List.{List, [], _∷_, List·Memᴰ, List·Memᴰ·head}
 use Prim.Native.Nat.{ℕ, zero, suc, _+_, _-_, _≤_, _<_}
 use native.Mathlib.Omega.{arith}
-use native.Mathlib.Decide.{ℕ-discrete, decLt}
+use native.Mathlib.Decide.{decLt}
 use lib.ListN.{length}
 use borrow.Author.Tests.{lt-ltb, le-leb}
 use Rattle.psn.proofs.Circle.{after-lt, back}
@@ -16,13 +16,12 @@ use Rattle.rules.specs.Paper.{answered}
 use Rattle.rules.specs.Receiver.{Receiver, judge, known, verdict, accept, sack-of, judged}
 use Rattle.rules.specs.Receiving.{arrive-refusals, arrive}
 use Rattle.rules.specs.Sending.{step}
-use Rattle.lists.specs.Lists.{All}
 use Rattle.rules.specs.declared.Arrival.{Arrival}
 use Rattle.rules.specs.declared.Answer.{Answer}
 use Rattle.rules.specs.declared.Sack.{Sack}
 use Rattle.rules.specs.declared.Verdict.the-variants.{Fresh, Known}
 use Rattle.delivery.specs.Wire.{Packet, Fate, arrival, Reply, Acks, hearing, accepts, message, Note, base-number, Near, Readable}
-use Rattle.delivery.specs.Network.{Start, Sides, Worlds, size-of, with-sender, with-receiver, acceptance, reply, on-arrive}
+use Rattle.delivery.specs.Network.{Start, Sides, Worlds, with-sender, with-receiver, acceptance, reply, on-arrive}
 use Rattle.delivery.specs.Network.{still, then}
 use Rattle.delivery.specs.Network as network
 use Rattle.delivery.specs.Rules.{rules, World, Run}
@@ -31,11 +30,10 @@ use Rattle.delivery.specs.Sense.{Ended, CanEnd}
 use Rattle.delivery.proofs.Effects.{rule-hear, rule-arrive, noted, run-hear, run-arrive}
 use Rattle.delivery.proofs.Rooms.{room-some, room-few}
 use Rattle.delivery.proofs.Sets.{plus, plus-same, at-most, at-least}
-use Rattle.delivery.proofs.Bytes.{Sizes, size-of-older, size-of-newest}
 use Rattle.delivery.proofs.Holds.{Holds, receiver-used, Tells}
 use Rattle.delivery.proofs.Keeps.{place-moves}
 use Rattle.delivery.proofs.Taken.{sack-taken, sack-moves, near-ahead, bits-near-ahead}
-use Rattle.delivery.proofs.Invariant.{Told, Inv, not-yet, not-ahead, inv-run, invariant}
+use Rattle.delivery.proofs.Invariant.{Told, Inv, size-good, not-yet, not-ahead, inv-run, invariant}
 use Rattle.delivery.proofs.Order.{plain-arrives}
 
 -- a run from where another ends
@@ -54,7 +52,7 @@ module _ {s : Start} {w : World} (I : Inv s w) (n : Note) (there : List·Memᴰ 
     (b : Bool) (k : Sack) (reply-is : n .reply ≡ Acks b k) (ahead : w .low < n .here) where
   tells : Tells s (among (w .accepted)) (n .here) k
   unfolding Told
-  tells = subst (λ (q : Reply). Told s (among (w .accepted)) (length (w .sent)) n q) reply-is (I .told n there)
+  tells = let T : Told s (among (w .accepted)) (length (w .sent)) n (Acks b k) = rw reply-is at (I .told n there) in T .tells
 
   here-near : Near (n .here) (w .low)
   here-near = near-ahead (I .keeps) (I .bound) (n .here) k tells (omega arith)
@@ -87,14 +85,6 @@ past {w = w} I i is e = at-least (I .holds .missing) (suc i) (λ j h. elim (decL
 -- ---- a packet comes whole
 clean : Fate
 clean = record { entropy = 0; flags = 0; cut = 0 }
-
-size-sent : (l : List ℕ) (i : ℕ) → Sizes l → i < length l → size-ok (size-of l i) ≡ true
-unfolding All
-size-sent [] i k h = absurd (omega arith)
-size-sent (z ∷ l) i k h = elim (ℕ-discrete i (length l)) [
-  | yes e ↦ ap (λ (j : ℕ). size-ok (size-of (z ∷ l) j)) e ∙ ap size-ok (size-of-newest z l) ∙ k .0
-  | no e ↦ ap size-ok (size-of-older z l i (omega arith)) ∙ size-sent l i (k .1) (omega arith)
-]
 
 -- what is behind E is known
 known-arrives : {s : Start} {A : ℕ → Bool} {r : Receiver} {at : ℕ} → Holds s A r at → (i z : ℕ) → size-ok z ≡ true → i < at → at ≤ i + half
@@ -138,9 +128,6 @@ module _ {s : Start} {w : World} (I : Inv s w) (p : Packet) (there : List·Mem�
       let at-sent = at-most (I .holds .missing) (length (w .sent)) (not-yet I) in
       omega (arith, not-ahead I, at-sent, I .keeps .next-is, I .keeps .room-left, room-few (s .send-room) (s .send-good))
 
-  size-good : size-ok (p .size) ≡ true
-  size-good = let C = I .carried p there in ap size-ok (C .size-is) ∙ size-sent (w .sent) (p .number) (I .sizes) (C .was-sent)
-
   arrive-acked : (b : Bool) → among (w .accepted) (p .number) ≡ b → Acked w (rule-arrive w p clean) (p .number)
   unfolding rule-arrive on-arrive noted acceptance arrival clean plain bit-at reply message answered left judged accepts among plus with-receiver
   arrive-acked true e =
@@ -150,7 +137,7 @@ module _ {s : Start} {w : World} (I : Inv s w) (p : Packet) (there : List·Mem�
       let a : Arrival = plain (p .psn) z in
       let met : arrive r a ≡ judged r a Known =
       subst (λ (q : ℕ). arrive r (plain q z) ≡ judged r (plain q z) Known) (sym (I .carried p there .psn-is))
-      (known-arrives (I .holds) i z size-good (past I i is e) (omega (arith, near))) in
+      (known-arrives (I .holds) i z (size-good I p there) (past I i is e) (omega (arith, near))) in
       subst (λ (o : Outcome Answer Receiver). Acked w (reply (with-receiver rules w (left r o)) i (message (answered o))) i) (sym met)
       (acked w r (w .accepted) i false (sack-of r a) e)
   arrive-acked false e =
@@ -161,7 +148,7 @@ module _ {s : Start} {w : World} (I : Inv s w) (p : Packet) (there : List·Mem�
       let low = at-most (I .holds .missing) i e in
       let met : arrive r a ≡ judged r a Fresh =
       subst (λ (q : ℕ). arrive r (plain q z) ≡ judged r (plain q z) Fresh) (sym (I .carried p there .psn-is))
-      (plain-arrives (I .holds) i z size-good e (omega (arith, not-ahead I, room-some (s .receive-room) (s .receive-good)))) in
+      (plain-arrives (I .holds) i z (size-good I p there) e (omega (arith, not-ahead I, room-some (s .receive-room) (s .receive-good)))) in
       subst (λ (o : Outcome Answer Receiver). Acked w (reply (with-receiver rules w (left r o)) i (message (answered o))) i) (sym met)
       (acked w (accept r a) (i ∷ w .accepted) i true (sack-of (accept r a) a) (plus-same i i (among (w .accepted)) refl))
 

@@ -3,24 +3,24 @@
 use mathlib.Core.Path.{_≡_, refl, sym, ap, ap₂, _∙_, subst}
 use mathlib.Core.Bool.{Bool, true, false, cond, false≢true}
 use mathlib.Core.List.{List, [], _∷_}
-use Prim.Native.Nat.{ℕ, zero, suc, _+_, _-_, _*_, _/_, _<_}
+use Prim.Native.Nat.{ℕ, zero, suc, _+_, _-_, _*_, _/_, _%_, _<_}
 use native.Mathlib.Omega.{arith}
 use native.Mathlib.Nat.{add-assoc}
 use native.Mathlib.Decide.{ℕ-discrete, decLt}
 use lib.Dec.{ltb, leb, eqb}
 use lib.ListN.{getD, take, drop, set, length-set, length-replicate}
-use lib.Seq.{getD-drop, getD-set-same, getD-set-other}
-use borrow.Author.Tests.{ltb-true, leb-false}
-use Rattle.psn.proofs.Circle.{after-zero, after-after, lands}
+use lib.Seq.{getD-take, getD-drop, getD-set-same, getD-set-other}
+use borrow.Author.Tests.{ltb-true, leb-false, lt-ltb, lt-leb}
+use Rattle.psn.proofs.Circle.{after-zero, after-after, ahead, lands}
 use Rattle.word.specs.Word.{bit-at}
 use Rattle.rules.specs.Numbers.{turn, half, after, before, distance, trimmed, trimmed-last-hop, no-buffer}
 use Rattle.lists.specs.Lists.{lead}
 use Rattle.rules.specs.Receiver.{Receiver, room, unused, fresh, judge, known, beyond, verdict, accept, block-at, block, sack-of}
 use Rattle.rules.specs.declared.Arrival.{Arrival}
 use Rattle.rules.specs.declared.Sack.{Sack}
-use Rattle.rules.specs.declared.Verdict.the-variants.{Fresh}
+use Rattle.rules.specs.declared.Verdict.the-variants.{Fresh, Known}
 use Rattle.lists.proofs.Joined.{or-false-each}
-use Rattle.lists.proofs.Lists.{lead-true, lead-false, lead-le, getD-alike, getD-slide, length-slide}
+use Rattle.lists.proofs.Lists.{lead-true, lead-false, lead-le, getD-alike, getD-slide, length-slide, in-range}
 use Rattle.delivery.specs.Network.{Start}
 use Rattle.delivery.specs.Wire.{Near, base-number}
 use Rattle.rules.proofs.Packed.{bit-pack}
@@ -92,6 +92,15 @@ judge-fresh false false false true n e = (cc, cc, cc, cc)
 judge-fresh false false false false true e = (cc, cc, cc, cc)
 judge-fresh false false false false false e = (refl, refl, refl, refl)
 
+judge-known : (t l k b n : Bool) → judge t l k b n ≡ Known → k ≡ true
+unfolding judge
+judge-known true l k b n e = cc
+judge-known false true k b n e = cc
+judge-known false false true b n e = refl
+judge-known false false false true n e = cc
+judge-known false false false false true e = cc
+judge-known false false false false false e = cc
+
 -- where packet i is not known, its PSN says which it is
 pub record Unknown (A : ℕ → Bool) (r : Receiver) (at i : ℕ) (p : ℕ) : Type 0 where
   pub number : i ≡ at + distance (r .expected) p
@@ -125,12 +134,32 @@ module _ {s : Start} {A : ℕ → Bool} {r : Receiver} {at : ℕ} (H : Holds s A
         whole-last = f .1;
       }
 
+  -- what is known is accepted
+  pub known-accepted : (i : ℕ) (a : Arrival) → a .psn .0 ≡ after (s .first) i → Near i at → verdict r a ≡ Known → A i ≡ true
+  unfolding verdict known
+  known-accepted i a is near e =
+      let p : ℕ = a .psn .0 in
+      let d : ℕ = distance (r .expected) p in
+      let k = judge-known (trimmed (a .flags)) (trimmed-last-hop (a .flags)) (known r p) (beyond r p) (no-buffer (a .flags)) e in
+      elim (decLt i at) [
+        | yes q ↦ H .missing .below i q
+        | no q ↦
+            let d-is : d ≡ i - at = ap₂ distance (H .expected-is) is ∙ ahead (s .first) at i (omega arith) (omega arith) in
+            let behind : leb half d ≡ false = lt-leb half d (omega arith) in
+            ap A (omega arith) ∙ sym (H .window-is d) ∙ (rw behind at k)
+      ]
+
 -- ---- what a SACK says
 pub record Tells (s : Start) (A : ℕ → Bool) (here : ℕ) (k : Sack) : Type 0 where
   pub cack-is : k .cack .0 ≡ before (after (s .first) here)
   pub base-is : k .block .base .0 ≡ after (s .first) (base-number here k)
   pub to-cack : (i : ℕ) → i < here → A i ≡ true
   pub bits : (j : ℕ) → bit-at (k .block .bitmap) j ≡ true → A (base-number here k + j) ≡ true
+
+-- a SACK says of packet i that it is accepted: by its cack, or by a bit of its block
+pub data Says (here : ℕ) (k : Sack) (i : ℕ) : Type 0 where
+  before-here : i < here → Says here k i
+  in-block : (j : ℕ) → j < 64 → i ≡ base-number here k + j → bit-at (k .block .bitmap) j ≡ true → Says here k i
 
 -- a bit is an entry of the window
 take-true : (n : ℕ) (l : List Bool) (i : ℕ) → getD (take n l) i false ≡ true → getD l i false ≡ true
@@ -151,19 +180,43 @@ module _ {s : Start} {A : ℕ → Bool} {r : Receiver} {at : ℕ} (H : Holds s A
       go true e = omega (arith, ltb-true d (room r) e, H .room-is, room-few (s .receive-room) (s .receive-good))
       go false e = omega arith
 
-  pub sack-tells : (a : Arrival) → Tells s A at (sack-of r a)
+  -- the block's base is as far past E as it says
+  base-is-at : (a : Arrival) → base-number at (sack-of r a) ≡ at + block-at r (a .psn .0)
   unfolding sack-of block base-number
+  base-is-at a =
+      let o : ℕ = block-at r (a .psn .0) in
+      let up : after (before (r .expected)) 1 ≡ after (s .first) at = ap (λ (p : ℕ). after (before p) 1) (H .expected-is) ∙ past-one (s .first) at in
+      let base : after (r .expected) o ≡ after (s .first) (at + o) = ap (λ (p : ℕ). after p o) (H .expected-is) ∙ after-after (s .first) at o in
+      ap (λ (x : ℕ). at + x) (moved (s .first) at o _ _ up base (block-few (a .psn .0)))
+
+  pub sack-tells : (a : Arrival) → Tells s A at (sack-of r a)
+  unfolding sack-of block
   sack-tells a =
       let o : ℕ = block-at r (a .psn .0) in
-      let cack : before (r .expected) ≡ before (after (s .first) at) = ap before (H .expected-is) in
-      let up : after (before (r .expected)) 1 ≡ after (s .first) at = ap (λ (p : ℕ). after p 1) cack ∙ past-one (s .first) at in
-      let base : after (r .expected) o ≡ after (s .first) (at + o) = ap (λ (p : ℕ). after p o) (H .expected-is) ∙ after-after (s .first) at o in
-      let way : distance (after (before (r .expected)) 1) (after (r .expected) o) ≡ o = moved (s .first) at o _ _ up base (block-few (a .psn .0)) in
       record {
-        cack-is = cack;
-        base-is = base ∙ ap (λ (x : ℕ). after (s .first) (at + x)) (sym way);
+        cack-is = ap before (H .expected-is);
+        base-is = ap (λ (p : ℕ). after p o) (H .expected-is) ∙ after-after (s .first) at o ∙ ap (after (s .first)) (sym (base-is-at a));
         to-cack = H .missing .below;
         bits = λ j e.
-            ap (λ (x : ℕ). A (at + x + j)) way ∙ ap A (add-assoc at o j) ∙ sym (H .window-is (o + j)) ∙ sym (getD-drop o (r .window) j false)
+            ap (λ (x : ℕ). A (x + j)) (base-is-at a) ∙ ap A (add-assoc at o j) ∙ sym (H .window-is (o + j)) ∙ sym (getD-drop o (r .window) j false)
             ∙ take-true 64 (drop o (r .window)) j (sym (bit-pack (take 64 (drop o (r .window))) j) ∙ e);
       }
+
+  -- the block is the one that has the packet's own PSN
+  pub sack-says : (i : ℕ) (a : Arrival) → a .psn .0 ≡ after (s .first) i → A i ≡ true → Says at (sack-of r a) i
+  unfolding sack-of block block-at
+  sack-says i a is e = elim (decLt i at) [
+    | yes p ↦ before-here p
+    | no p ↦
+        let l = r .window in
+        let d : ℕ = distance (r .expected) (a .psn .0) in
+        let o : ℕ = block-at r (a .psn .0) in
+        let there : getD l (i - at) false ≡ true = H .window-is (i - at) ∙ ap A (omega arith) ∙ e in
+        let few : i - at < room r = in-range l (i - at) there in
+        let small = room-few (s .receive-room) (s .receive-good) in
+        let d-is : d ≡ i - at = ap₂ distance (H .expected-is) is ∙ ahead (s .first) at i (omega arith) (omega (arith, H .room-is)) in
+        let o-is : o ≡ 64 * (d / 64) = rw (lt-ltb d (room r) (omega arith)) in
+        in-block (d % 64) (omega arith) (omega (arith, base-is-at a))
+        (bit-pack (take 64 (drop o l)) (d % 64) ∙ getD-take 64 (drop o l) (d % 64) false (omega arith) ∙ getD-drop o l (d % 64) false
+        ∙ ap (λ (x : ℕ). getD l x false) (omega arith) ∙ there)
+  ]

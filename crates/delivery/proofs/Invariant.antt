@@ -42,9 +42,9 @@ use Rattle.delivery.specs.Promise.{among, Once}
 use Rattle.delivery.proofs.Effects.{rule-send, rule-resend, rule-timer, rule-hear, noted, rule-arrive}
 use Rattle.delivery.proofs.Rooms.{room-few}
 use Rattle.delivery.proofs.Places.{moved, stays}
-use Rattle.delivery.proofs.Sets.{at-least, plus, plus-other, plus-more}
-use Rattle.delivery.proofs.Bytes.{Sizes, total, total-plus, total-older, size-of-older, size-of-newest}
-use Rattle.delivery.proofs.Holds.{Holds, fresh-holds, accept-holds, accept-few, Newcomer, newcomer, Tells, sack-tells}
+use Rattle.delivery.proofs.Sets.{at-least, plus, plus-same, plus-other, plus-more}
+use Rattle.delivery.proofs.Bytes.{Sizes, total, total-plus, total-older, size-of-older, size-of-newest, size-sent}
+use Rattle.delivery.proofs.Holds.{Holds, fresh-holds, accept-holds, accept-few, Newcomer, newcomer, known-accepted, Tells, sack-tells, Says, sack-says}
 use Rattle.delivery.proofs.Keeps.{Keeps, nth-is, Quiet, quiet-self, quiet-update, quiet-timer, quiet-nack, keeps-quiet}
 use Rattle.delivery.proofs.Keeps.{keeps-more, keeps-send, next-number, keeps-sack, place-moves, fresh-rests, rest-keeps}
 
@@ -66,19 +66,29 @@ pub record Names (s : Start) (n about : ℕ) (k : Nack) : Type 0 where
   pub was-sent : about < n
   pub reason-good : reason-ok (k .reason) ≡ true
 
+-- a SACK tells what is accepted, and says so of the packet that it answers
+pub record Answers (s : Start) (A : ℕ → Bool) (here about : ℕ) (k : Sack) : Type 0 where
+  pub tells : Tells s A here k
+  pub says : Says here k about
+
 unfoldable pub Told : Start → (ℕ → Bool) → ℕ → Note → Reply → Type 0
-Told s A n note (Acks b k) = Tells s A (note .here) k
+Told s A n note (Acks b k) = Answers s A (note .here) (note .about) k
 Told s A n note (Nacks k) = Names s n (note .about) k
 
 told-more : (s : Start) (A B : ℕ → Bool) (n m : ℕ) → ((j : ℕ) → A j ≡ true → B j ≡ true) → n ≤ m
     → (note : Note) (q : Reply) → Told s A n note q → Told s B m note q
 unfolding Told
-told-more s A B n m more h note (Acks b k) T = record {
-  cack-is = T .cack-is;
-  base-is = T .base-is;
-  to-cack = λ i h. more i (T .to-cack i h);
-  bits = λ j e. more _ (T .bits j e);
-}
+told-more s A B n m more h note (Acks b k) T =
+    let U = T .tells in
+    record {
+      tells = record {
+        cack-is = U .cack-is;
+        base-is = U .base-is;
+        to-cack = λ i h. more i (U .to-cack i h);
+        bits = λ j e. more _ (U .bits j e);
+      };
+      says = T .says;
+    }
 told-more s A B n m more h note (Nacks k) T = record { psn-is = T .psn-is; was-sent = omega (arith, T .was-sent); reason-good = T .reason-good }
 
 pub record Inv (s : Start) (w : World) : Type 0 where
@@ -107,6 +117,10 @@ inv-begin s = record {
 }
 
 module _ {s : Start} {w : World} (I : Inv s w) where
+  -- a packet on the wire has a good size
+  pub size-good : (p : Packet) → List·Memᴰ p (w .wire) → size-ok (p .size) ≡ true
+  size-good p there = let C = I .carried p there in ap size-ok (C .size-is) ∙ size-sent (w .sent) (p .number) (I .sizes) (C .was-sent)
+
   -- the next packet is not accepted
   pub not-yet : among (w .accepted) (length (w .sent)) ≡ false
   not-yet = never-true _ (λ e. let q = I .bound (length (w .sent)) e in omega arith)
@@ -156,7 +170,7 @@ module _ {s : Start} {w : World} (I : Inv s w) where
   inv-heard : (n : Note) (q : Reply) → Told s (among (w .accepted)) (length (w .sent)) n q → Readable (w .low) n q
       → Inv s (with-sender rules w (left (w .sending) (step (w .sending) (hearing q))))
   unfolding step hearing Told
-  inv-heard n (Acks b k) T R = inv-sack n b k T R
+  inv-heard n (Acks b k) T R = inv-sack n b k (T .tells) R
   inv-heard n (Nacks k) T R = inv-quiet (left (w .sending) (nack (w .sending) (k .psn) (k .reason))) (quiet-nack (w .sending) (k .psn) (k .reason))
 
   inv-hear : (n : Note) → List·Memᴰ n (w .notes) → Readable (w .low) n (n .reply) → Inv s (rule-hear w n)
@@ -232,7 +246,7 @@ module _ {s : Start} {w : World} (I : Inv s w) where
       (λ i h k. absurd (omega arith))
 
 -- ---- what the receiver does
-size-whole : (t l : Bool) (a b : ℕ) → t ≡ false → l ≡ false → cond (t || l) a b ≡ b
+pub size-whole : (t l : Bool) (a b : ℕ) → t ≡ false → l ≡ false → cond (t || l) a b ≡ b
 size-whole t l a b p q = rw (p, q)
 
 accept-count : (r : Receiver) (a : Arrival) → accept r a .count ≡ (r .count + a .size) % 2 ^ 32
@@ -317,7 +331,7 @@ module _ {s : Start} {w : World} (I : Inv s w) where
         (accept-count r a ∙ ap₂ (λ (x y : ℕ). (x + y) % 2 ^ 32) (I .counted) size ∙ mod-add-mod (total A (w .sent)) (2 ^ 32) (size-of (w .sent) i)
         ∙ ap (λ (x : ℕ). x % 2 ^ 32) (sym (total-plus A i (w .sent) (C .was-sent) (N .unknown .absent))))
         (N .unknown .absent, I .once)
-        (rw here (sack-tells H a))
+        (rw here (record { tells = sack-tells H a; says = sack-says H i a (C .psn-is) (plus-same i i A refl) }))
 
     names : (v : Verdict) → reason-ok (reason-of v) ≡ true → Names s (length (w .sent)) (p .number) (nack-of v (arrival p f))
     unfolding nack-of arrival
@@ -325,9 +339,13 @@ module _ {s : Start} {w : World} (I : Inv s w) where
 
     inv-judged : (v : Verdict) → verdict (w .receiving) (arrival p f) ≡ v
         → let o = judged (w .receiving) (arrival p f) v in Inv s (reply (with-receiver rules w (left (w .receiving) o)) (p .number) (message (answered o)))
-    unfolding judged left answered message accepts reply acceptance noted with-receiver Told reason-of reason-ok
+    unfolding arrival judged left answered message accepts reply acceptance noted with-receiver Told reason-of reason-ok
     inv-judged Fresh e = inv-fresh e
-    inv-judged Known e = inv-same (p .number) _ (sack-tells (I .holds) (arrival p f))
+    inv-judged Known e =
+        let a : Arrival = arrival p f in
+        let i : ℕ = p .number in
+        let K = known-accepted (I .holds) i a (C .psn-is) near e in
+        inv-same i _ (record { tells = sack-tells (I .holds) a; says = sack-says (I .holds) i a (C .psn-is) K })
     inv-judged Beyond e = inv-same (p .number) _ (names Beyond refl)
     inv-judged NoBuffer e = inv-same (p .number) _ (names NoBuffer refl)
     inv-judged Trim e = inv-same (p .number) _ (names Trim refl)

@@ -117,7 +117,7 @@ module _ {s : Start} {A : ℕ → Bool} {n : ℕ} {x : Sender} {low : ℕ} (K : 
   }
 
 -- ---- send: the new entry is not retired
-retired-new : (l : List Entry) (z k : ℕ) → getD (map is-retired (l ++ (new z ∷ []))) k false ≡ getD (map is-retired l) k false
+pub retired-new : (l : List Entry) (z k : ℕ) → getD (map is-retired (l ++ (new z ∷ []))) k false ≡ getD (map is-retired l) k false
 retired-new [] z zero = refl
 retired-new [] z (suc k) = refl
 retired-new (e ∷ l) z zero = refl
@@ -163,9 +163,20 @@ or-cases : (a b : Bool) (P : Type 0) → (a || b) ≡ true → (a ≡ true → P
 or-cases true b P e f g = f refl
 or-cases false b P e f g = g e
 
--- how far a SACK moves the place
+-- what is retired by a SACK or was before, and how far that moves the place
+abbrev pub retired-row : Sender → Sack → List Bool
+retired-row x k = map is-retired (retire (named x (k .cack .0) (k .block)) (x .entries))
+
 abbrev pub moves : Sender → Sack → ℕ
-moves x k = lead (map is-retired (retire (named x (k .cack .0) (k .block)) (x .entries)))
+moves x k = lead (retired-row x k)
+
+-- what is retired after it
+pub retired-after : (x : Sender) (k : Sack) (i : ℕ) → retired-at (after-sack x (k .cack .0) (k .block)) i ≡ getD (retired-row x k) (moves x k + i) false
+unfolding settle after-sack
+retired-after x k i =
+    let l : List Entry = retire (named x (k .cack .0) (k .block)) (x .entries) in
+    let m : ℕ = moves x k in
+    List·getD-map is-retired (drop m l) i (new 0) ∙ ap is-retired (getD-drop m l i (new 0)) ∙ sym (List·getD-map is-retired l (m + i) (new 0))
 
 -- cack within what is outstanding
 up-to-cack : (x : Sender) (cack i : ℕ) → i < up-to x cack → (distance (x .place) cack ≤ outstanding x) × (i < distance (x .place) cack)
@@ -182,9 +193,8 @@ module _ {s : Start} {A : ℕ → Bool} {n : ℕ} {x : Sender} {low : ℕ} (K : 
   abbrev f : ℕ → Bool
   f = named x (k .cack .0) (k .block)
 
-  -- what is retired after it
   abbrev row : List Bool
-  row = map is-retired (retire f (x .entries))
+  row = retired-row x k
 
   abbrev m : ℕ
   m = moves x k
@@ -229,8 +239,7 @@ module _ {s : Start} {A : ℕ → Bool} {n : ℕ} {x : Sender} {low : ℕ} (K : 
       let m-le : m ≤ length row = lead-le row in
       let len : length row ≡ outstanding x = row-length in
       let l : List Entry = retire f (x .entries) in
-      let rest : (i : ℕ) → getD (map is-retired (drop m l)) i false ≡ getD row (m + i) false =
-      λ i. List·getD-map is-retired (drop m l) i (new 0) ∙ ap is-retired (getD-drop m l i (new 0)) ∙ sym (List·getD-map is-retired l (m + i) (new 0)) in
+      let rest = retired-after x k in
       let left-over : length (drop m l) ≡ outstanding x - m = length-drop m l ∙ ap (λ (n : ℕ). n - m) (sym (length-map l is-retired) ∙ len) in
       record {
         room-is = K .room-is;

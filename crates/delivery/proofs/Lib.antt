@@ -16,3 +16,7 @@ pub mod Never
 pub mod CanEnd
 pub mod Example
 pub mod Following
+pub mod Retires
+pub mod Brings
+pub mod Tries
+pub mod DoesEnd

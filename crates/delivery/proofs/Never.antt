@@ -41,7 +41,7 @@ never-beyond s w run p m near f e =
 taken : {s : Start} {w : World} → Inv s w → (n : Note) (q : Reply) → Told s (among (w .accepted)) (length (w .sent)) n q
     → Readable (w .low) n q → Taken (w .sending) q
 unfolding Told Readable step hearing
-taken I n (Acks b k) T R = (_, _, sack-taken (I .keeps) (I .bound) (n .here) k T (R .0) (R .1))
+taken I n (Acks b k) T R = (_, _, sack-taken (I .keeps) (I .bound) (n .here) k (T .tells) (R .0) (R .1))
 taken I n (Nacks k) T R = nack-taken (I .keeps) (n .about) (k .psn) (k .reason) (T .psn-is) (T .was-sent) R (T .reason-good)
 
 pub never-refused : NeverRefused

@@ -71,7 +71,7 @@ module _ {s : Start} {A : ℕ → Bool} {n : ℕ} {x : Sender} {low : ℕ} (K : 
 
   -- ---- SACK
   module _ (bound : (i : ℕ) → A i ≡ true → i < n) (here : ℕ) (k : Sack) (T : Tells s A here k) where
-    here-sent : here ≤ n
+    pub here-sent : here ≤ n
     here-sent = elim (decLt n here) [ yes p ↦ let q = bound n (T .to-cack n p) in absurd (omega arith) | no p ↦ omega arith ]
 
     place-at : x .place ≡ after (s .first) (low + (turn - 1))
@@ -84,7 +84,7 @@ module _ {s : Start} {A : ℕ → Bool} {n : ℕ} {x : Sender} {low : ℕ} (K : 
       abbrev c : ℕ
       c = distance (x .place) (k .cack .0)
 
-      cack-ahead : low ≤ here → c ≡ here + (turn - 1) - (low + (turn - 1))
+      pub cack-ahead : low ≤ here → distance (x .place) (k .cack .0) ≡ here + (turn - 1) - (low + (turn - 1))
       cack-ahead h = ap₂ distance place-at cack-at ∙ ahead (s .first) (low + (turn - 1)) (here + (turn - 1)) (omega arith) (omega arith)
 
       cack-sent : unsent-cack x (k .cack .0) ≡ false

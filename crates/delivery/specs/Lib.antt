@@ -4,3 +4,4 @@ pub mod Network
 pub mod Rules
 pub mod Promise
 pub mod Sense
+pub mod Progress
