@@ -16,9 +16,11 @@ use Rattle.delivery.specs.Network.{Start, put, acceptance, reply, size-o
 use Rattle.delivery.specs.Network as net
 use Rattle.delivery.specs.Rules.{World, Run, begin}
 use Rattle.delivery.specs.Promise.{Promise, lossless, retired-at}
+use Rattle.delivery.specs.Progress.{Course, Diligent, Fair}
 use Rattle.delivery.proofs.Effects.{rule-send, rule-resend, rule-timer, rule-hear, rule-arrive}
 use Rattle.delivery.proofs.Effects.{run-send, run-resend, run-timer, run-hear, run-arrive}
 use Rattle.delivery.proofs.Theorem.{demand-3}
+use Rattle.delivery.proofs.Fair.{goes-on}
 
 -- all definitions of the network under one name
 unfoldable network : Unit {0}
@@ -171,3 +173,7 @@ alike = kept .in-the-end nothing
   where
     nothing : (k : ℕ) → k < outstanding (w21 .sending) → retired-at (w21 .sending) k ≡ true
     nothing k h = absurd (omega (arith, ap length (the-end .1)))
+
+-- and it goes on in a course with a diligent host and a fair network
+a-fair-course : (c : Course s) × Diligent c × Fair c × ((t : ℕ) × (c .at t ≡ w21))
+a-fair-course = goes-on s w21 run21

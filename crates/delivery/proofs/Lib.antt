@@ -14,9 +14,10 @@ pub mod Theorem
 pub mod Begins
 pub mod Never
 pub mod CanEnd
-pub mod Example
-pub mod Following
 pub mod Retires
 pub mod Brings
 pub mod Tries
 pub mod DoesEnd
+pub mod Fair
+pub mod Example
+pub mod Following

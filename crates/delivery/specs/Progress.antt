@@ -143,3 +143,7 @@ Settles =
     (s : Start) (c : Course s) → Diligent c → Fair c → (t : ℕ) → ((v : ℕ) → t ≤ v → c .at v .sent ≡ c .at t .sent)
     → (u : ℕ) × ((v : ℕ) → u ≤ v
     → (c .at v .sending ≡ lossless s (c .at t .sent) .0) × (c .at v .receiving ≡ lossless s (c .at t .sent) .1))
+
+-- such courses there are: every run goes on in one, so neither claim is empty
+abbrev pub GoesOn : Type 0
+GoesOn = (s : Start) (w : World) → Run (begin s) w → (c : Course s) × Diligent c × Fair c × ((t : ℕ) × (c .at t ≡ w))
