@@ -3,3 +3,4 @@ pub mod Engines
 pub mod Halves
 pub mod Begun
 pub mod Tables
+pub mod Connections

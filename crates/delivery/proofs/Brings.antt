@@ -1,26 +1,22 @@
 -- A packet that comes whole is accepted or was before, so it brings a SACK. Assumes nothing.
-use mathlib.Core.Path.{_≡_, refl, sym, ap, ap₂, _∙_, subst}
-use mathlib.Core.Bool.{Bool, true, false, not, cond, _&&_}
-use mathlib.Core.List.{List, _∷_, List·Memᴰ}
+use mathlib.Core.Path.{_≡_, refl, sym, ap, _∙_}
+use mathlib.Core.Bool.{Bool, true, false, not, _&&_}
+use mathlib.Core.List.{_∷_, List·Memᴰ}
 use Prim.Native.Nat.{ℕ}
 use lib.Dec.{ltb}
-use lib.ListN.{length}
 use borrow.Author.Tests.{lt-ltb, not-true}
 use Rattle.psn.proofs.Circle.{after-lt}
 use Rattle.lists.proofs.Joined.{and-true-each}
 use Rattle.rules.specs.Numbers.{turn, after, size-ok, flags-ok, trimmed, trimmed-last-hop, no-buffer}
-use Rattle.promise.specs.Outcome.{Outcome, unless, left}
+use Rattle.promise.specs.Outcome.{unless, left}
 use Rattle.rules.specs.Paper.{answered}
 use Rattle.rules.specs.Receiver.{Receiver, judge, known, beyond, verdict, judged}
 use Rattle.rules.specs.Receiving.{arrive-refusals, arrive}
 use Rattle.rules.specs.Receiving as receiving
-use Rattle.rules.specs.declared.Answer.{Answer}
 use Rattle.rules.specs.declared.Arrival.{Arrival}
-use Rattle.rules.specs.declared.Verdict.{Verdict}
-use Rattle.rules.specs.declared.Verdict.the-variants.{Fresh, Known, Beyond}
 use Rattle.delivery.specs.Wire.{Packet, Fate, arrival, accepts, message, Note, Near}
 use Rattle.delivery.specs.Network.{Start, with-receiver, reply, on-arrive}
-use Rattle.delivery.specs.Network.{Next, sends, resends, timers, hears, arrives, beside-sender, beside-receiver}
+use Rattle.delivery.specs.Network.{sends, resends, timers, hears, arrives, beside-sender, beside-receiver}
 use Rattle.delivery.specs.Rules.{given, rules, World, Run, begin}
 use Rattle.delivery.specs.Progress.{whole, Brings, Sacks, BringsSack}
 use Rattle.delivery.proofs.Holds.{receiver-used}

@@ -1,7 +1,7 @@
 -- A course ends where the host is diligent and the network fair: the packet at place + 1 is tried for as long as it is there, so a copy of
 -- it and the SACK that answers it get through, and that moves the place. So on, packet by packet. Assumes nothing.
-use mathlib.Core.Path.{_≡_, refl, sym, ap, _∙_, subst}
-use mathlib.Core.Bool.{true, false, false≢true}
+use mathlib.Core.Path.{_≡_, sym, ap, _∙_, subst}
+use mathlib.Core.Bool.{true, false≢true}
 use mathlib.Core.List.{List, _∷_}
 use mathlib.Core.Logic.{_⊎_, inl, inr}
 use Prim.Native.Nat.{ℕ, zero, suc, _+_, _-_, _≤_, _<_}
@@ -11,7 +11,7 @@ use lib.ListN.{length}
 use Rattle.rules.specs.Sender.{outstanding}
 use Rattle.delivery.specs.Wire.{Note}
 use Rattle.delivery.specs.Network.{Start, still, then}
-use Rattle.delivery.specs.Rules.{World, Run, begin}
+use Rattle.delivery.specs.Rules.{Run, begin}
 use Rattle.delivery.specs.Promise.{lossless, retired-at}
 use Rattle.delivery.specs.Progress.{Retired, behind, ahead, marked-at, Resends, Sacks, Course, Diligent, Tried, Through, Fair, DoesEnd, Settles}
 use Rattle.delivery.proofs.Invariant.{Inv, invariant}

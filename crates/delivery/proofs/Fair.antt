@@ -9,19 +9,18 @@ use native.Mathlib.Omega.{arith}
 use lib.Dec.{leb}
 use lib.ListN.{length}
 use borrow.Author.Tests.{le-leb}
-use Rattle.promise.specs.Outcome.{Outcome, Refused, unless, left}
+use Rattle.promise.specs.Outcome.{Refused, unless, left}
 use Rattle.rules.specs.Numbers.{psn}
 use Rattle.rules.specs.Paper.{answered}
 use Rattle.rules.specs.Sender.{Sender, outstanding, nth, unused}
 use Rattle.rules.specs.Marks.{nearest, resent}
-use Rattle.rules.specs.Sending.{resend-refusals, resend, timer, step}
-use Rattle.rules.specs.declared.Answer.{Answer}
+use Rattle.rules.specs.Sending.{resend-refusals, resend, step}
 use Rattle.delivery.specs.Wire.{Packet, message}
 use Rattle.delivery.specs.Network.{Start, with-sender, put, on-resend, Next, resends, timers, still, then}
 use Rattle.delivery.specs.Rules.{given, rules, World, Run, begin}
 use Rattle.delivery.specs.Progress.{Times, Resends, Course, Tried, Fair, Retired, GoesOn}
 use Rattle.delivery.proofs.Effects.{rule-resend, rule-timer}
-use Rattle.delivery.proofs.Keeps.{Quiet, quiet-timer}
+use Rattle.delivery.proofs.Keeps.{quiet-timer}
 use Rattle.delivery.proofs.CanEnd.{can-end}
 
 -- ---- a course from w on, with a diligent host, that comes by a world v; after some moment nothing is put on the wire

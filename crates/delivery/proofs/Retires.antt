@@ -1,7 +1,7 @@
 -- What is retired stays so, and the SACK that answers a packet retires it, whenever it is heard. Assumes nothing.
 use mathlib.Core.Path.{_≡_, refl, sym, ap, ap₂, _∙_, subst}
 use mathlib.Core.Bool.{Bool, true, false, cond, or-true}
-use mathlib.Core.List.{List, [], _∷_, _++_, map, List·Memᴰ}
+use mathlib.Core.List.{List, [], _∷_, map}
 use Prim.Native.Nat.{ℕ, zero, suc, _+_, _-_, _≤_, _<_}
 use native.Mathlib.Omega.{arith}
 use native.Mathlib.Decide.{decLt}
@@ -10,32 +10,30 @@ use lib.ListN.{length, getD}
 use borrow.Author.Tests.{lt-ltb, le-leb}
 use Rattle.psn.proofs.Circle.{ahead as circle-ahead}
 use Rattle.word.specs.Word.{bit-at}
-use Rattle.rules.specs.Numbers.{turn, after, distance, psn}
-use Rattle.lists.specs.Lists.{update}
+use Rattle.rules.specs.Numbers.{distance, psn}
 use Rattle.promise.specs.Outcome.{Outcome, left}
 use Rattle.promise.proofs.Refusing.{through}
 use Rattle.rules.specs.Paper.{answered}
 use Rattle.rules.specs.Receiver.{Receiver}
-use Rattle.rules.specs.Receiving as receiving
-use Rattle.rules.specs.Sender.{Entry, Sender, outstanding, nth, with-entries, new, sent}
+use Rattle.rules.specs.Sender.{Entry, Sender, outstanding, nth, with-entries, sent}
 use Rattle.rules.specs.Retire.{is-retired, retired, retire, named, up-to, has-bit, after-sack}
-use Rattle.rules.specs.Marks.{with-mark, nearest, resent}
-use Rattle.rules.specs.Sending.{send-refusals, send, sack, nack, timer, resend-refusals, resend, step}
+use Rattle.rules.specs.Marks.{nearest, resent}
+use Rattle.rules.specs.Sending.{send-refusals, send, sack, resend-refusals, resend, step}
 use Rattle.rules.specs.declared.Answer.{Answer}
 use Rattle.rules.specs.declared.Sack.{Sack}
 use Rattle.delivery.specs.Wire.{Packet, Reply, Acks, Nacks, hearing, Message, Silent, Goes, Replies, message, Note, base-number, Near, Readable}
 use Rattle.delivery.specs.Network.{Start, with-sender, put, on-send, again, on-resend, with-receiver, reply, on-arrive}
 use Rattle.delivery.specs.Network.{Next, sends, resends, timers, hears, arrives, beside-sender, beside-receiver, still, then}
-use Rattle.delivery.specs.Rules.{given, rules, World, Run, begin}
+use Rattle.delivery.specs.Rules.{given, rules, World, Run}
 use Rattle.delivery.specs.Promise.{among, retired-at}
 use Rattle.delivery.specs.Progress.{Retired, behind, ahead, Hears, Sacks, Retires}
-use Rattle.delivery.proofs.Effects.{rule-send, rule-resend, rule-timer, rule-hear, rule-arrive}
+use Rattle.delivery.proofs.Effects.{rule-send, rule-resend, rule-timer}
 use Rattle.delivery.proofs.Places.{stays}
 use Rattle.delivery.proofs.Holds.{Tells, Says, before-here, in-block}
-use Rattle.delivery.proofs.Keeps.{Keeps, nth-is, Quiet, quiet-self, quiet-update, quiet-timer, quiet-nack}
+use Rattle.delivery.proofs.Keeps.{nth-is, Quiet, quiet-self, quiet-update, quiet-timer, quiet-nack}
 use Rattle.delivery.proofs.Keeps.{retired-new, retired-row, moves, retired-after, place-moves}
 use Rattle.delivery.proofs.Taken.{here-sent, cack-ahead, sack-taken}
-use Rattle.delivery.proofs.Invariant.{Told, Answers, Inv, inv-next, inv-run, invariant}
+use Rattle.delivery.proofs.Invariant.{Told, Inv, inv-next, inv-run, invariant}
 
 -- ---- entries: what passes is retired, and what was stays so
 retire-named : (f : ℕ → Bool) (l : List Entry) (i : ℕ) → i < length l → f i ≡ true → getD (map is-retired (retire f l)) i false ≡ true

@@ -1,39 +1,36 @@
 -- The packet at place + 1 is tried again: its timer marks it, the mark stays until a resend takes it or the place moves, and the resend
 -- hands that packet out. Assumes nothing.
-use mathlib.Core.Path.{_≡_, refl, sym, ap, _∙_}
-use mathlib.Core.Bool.{Bool, true, false, not, cond, _&&_, false≢true}
-use mathlib.Core.List.{List, [], _∷_, _++_, map, List·Memᴰ}
+use mathlib.Core.Path.{_≡_, refl}
+use mathlib.Core.Bool.{Bool, true, false, cond, false≢true}
+use mathlib.Core.List.{List, [], _∷_, _++_, map}
 use mathlib.Core.Logic.{_⊎_, inl, inr}
 use Prim.Native.Nat.{ℕ, zero, suc, _+_, _<_}
 use native.Mathlib.Omega.{arith}
-use lib.Dec.{ltb, leb}
+use lib.Dec.{leb}
 use lib.ListN.{length, getD, drop}
 use borrow.Author.Tests.{not-false, lt-ltb, lt-leb}
 use Rattle.psn.specs.declared.Psn.{Psn}
 use Rattle.psn.proofs.Circle.{after-lt, distance-same}
-use Rattle.rules.specs.Numbers.{turn, after, distance, psn}
+use Rattle.rules.specs.Numbers.{turn, psn}
 use Rattle.lists.specs.Lists.{lead, update}
 use Rattle.promise.specs.Outcome.{Outcome, unless, left}
-use Rattle.promise.proofs.Refusing.{through}
 use Rattle.promise.proofs.Outcomes.{After, after-unless, after-cond, after-done}
 use Rattle.rules.specs.Paper.{answered}
 use Rattle.rules.specs.Receiver.{Receiver}
 use Rattle.rules.specs.Sender.{Entry, Sender, outstanding, nth, with-entries, new, index, unsent, sent}
 use Rattle.rules.specs.Retire.{is-retired, retired, retire, named, settle, after-sack}
 use Rattle.rules.specs.Marks.{with-mark, markable, mark, nacked, unmarked, nearest, resent}
-use Rattle.rules.specs.Sending.{send-refusals, send, nack, timer-refusals, timer, resend-refusals, resend, step}
+use Rattle.rules.specs.Sending.{send, nack, timer-refusals, timer, resend-refusals, resend, step}
 use Rattle.rules.specs.declared.Answer.{Answer}
 use Rattle.rules.specs.declared.Answer.the-variants as answer
-use Rattle.rules.specs.declared.Sack.{Sack}
 use Rattle.delivery.specs.Wire.{Packet, Reply, Acks, Nacks, hearing, Message, Silent, Goes, Replies, message, Note, Readable}
 use Rattle.delivery.specs.Network.{Start, with-sender, put, on-send, again, on-resend, with-receiver, reply, on-arrive}
 use Rattle.delivery.specs.Network.{Next, sends, resends, timers, hears, arrives, beside-sender, beside-receiver}
 use Rattle.delivery.specs.Rules.{given, rules, World}
-use Rattle.delivery.specs.Promise.{among, retired-at}
+use Rattle.delivery.specs.Promise.{among}
 use Rattle.delivery.specs.Progress.{is-marked, marked-at, Times, Resends, Marks, HandsOut}
-use Rattle.delivery.proofs.Effects.{rule-send}
 use Rattle.delivery.proofs.Places.{stays}
-use Rattle.delivery.proofs.Keeps.{sender-used, moves, place-moves}
+use Rattle.delivery.proofs.Keeps.{sender-used, place-moves}
 use Rattle.delivery.proofs.Taken.{sack-taken}
 use Rattle.delivery.proofs.Invariant.{Told, Inv, invariant}
 
@@ -51,7 +48,7 @@ marked-already : (l : List Entry) → 0 < length l → getD (map is-retired l) 0
 marked-already [] h r m = absurd (omega arith)
 marked-already (e ∷ l) h r m = not-false (e .marked) (rw r at m)
 
-module _ (s : Start) {w : World} (I : Inv s w) where
+module _ {s : Start} {w : World} (I : Inv s w) where
   timer-marks : 0 < outstanding (w .sending) → marked-at (left (w .sending) (timer (w .sending) (psn (nth (w .sending) 0)))) 0 ≡ true
   unfolding timer timer-refusals unless unsent index mark with-entries
   timer-marks some =
@@ -69,7 +66,7 @@ pub marks : Marks
 unfolding Times with-sender step
 marks s w u run some (sends z a x g) h = absurd h
 marks s w u run some (resends a x g) h = absurd h
-marks s w u run some (timers p a x given) h = rw h (timer-marks s (invariant run) some)
+marks s w u run some (timers p a x given) h = rw h (timer-marks (invariant run) some)
 marks s w u run some (hears m there r a x g) h = absurd h
 marks s w u run some (arrives p there near f a r g) h = absurd h
 marks s w u run some (beside-sender x g) h = absurd h
