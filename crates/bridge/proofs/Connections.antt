@@ -1,24 +1,19 @@
--- The sides of connections by value follow the rules: an event of a side goes by its rule, and one of the other side leaves it. A connection
--- by value is a table of one slot. Assumes nothing.
+-- The sides of connections by value follow the rules: an event of a side goes by its rule, and one of the other side leaves it. Assumes
+-- nothing.
 use mathlib.Core.Path.{_≡_, refl, sym, ap, _∙_}
-use mathlib.Core.Bool.{false}
-use mathlib.Core.List.{List, [], _∷_}
 use Prim.Native.Nat.{ℕ}
 use native.Mathlib.Omega.{arith}
 use Rattle.promise.specs.Outcome.{Outcome, Done, left}
 use Rattle.promise.proofs.Refusing.{through}
 use Rattle.rules.specs.Paper.{answered}
-use Rattle.rules.specs.Connection.{fresh, start, start-refusals, step}
+use Rattle.rules.specs.Connection.{fresh, start, start-refusals}
 use Rattle.rules.specs.Connection as rule
-use Rattle.rules.specs.Table.{outside, in-slot}
 use Rattle.rules.specs.Receiver as rule-receiver
 use Rattle.rules.specs.Sender as rule-sender
 use Rattle.rules.specs.declared.Answer.{Answer}
 use Rattle.rules.specs.declared.Answer.the-variants as answer
 use Rattle.rules.specs.declared.Opening.{Opening}
 use Rattle.rules.specs.declared.Start.{Start}
-use Rattle.rules.specs.declared.Event.{Event}
-use Rattle.rules.specs.declared.Event.the-variants as event
 use Rattle.rules.proofs.Settled.{answer-is-rule}
 use Rattle.connection.specs.declared.Connection.{Connection}
 use Rattle.connection.specs.Record.{empty, meaning}
@@ -27,7 +22,7 @@ use Rattle.delivery.proofs.Following.{Follows, keeps}
 use Rattle.bridge.specs.Tables.{sending-opens, receiving-opens}
 use Rattle.bridge.specs.Connections.{sending-of, receiving-of, Begun, On, connections, ConnectionsKeep}
 use Rattle.bridge.proofs.Engines.{gives}
-use Rattle.bridge.proofs.Halves.{Half, sending-half, receiving-half, goes-answer, goes-record, half-answer, half-next, other-same}
+use Rattle.bridge.proofs.Halves.{Half, sending-half, receiving-half, step-answer, step-next, step-same}
 
 -- a start that is done leaves the two fresh sides
 start-leaves : (s : Start) (c : rule.Connection) → answered (start s) ≡ answer.Started → left c (start s) ≡ fresh s
@@ -35,30 +30,6 @@ unfolding start left answered
 start-leaves s c =
     through (λ (o : Outcome Answer rule.Connection). answered o ≡ answer.Started → left c o ≡ fresh s) (start-refusals s) (Done (fresh s) answer.Started)
     (λ n h. let z : _≡_ {A = ℕ} 0 1 = cc in absurd (omega arith)) (λ _ h. refl)
-
--- ---- an event of a half of a connection, as one of a table of this slot alone
-module _ {P Q E : Type 0} (H : Half P Q E) (c : rule.Connection) (e : E) where
-  abbrev alone : List rule.Connection
-  alone = c ∷ []
-
-  abbrev named : Event
-  named = event.Use (H .event-of e)
-
-  here : outside alone 0 ≡ false
-  unfolding outside
-  here = refl
-
-  step-answer : answered (step c (H .event-of e)) ≡ answered (H .law (H .mine c) e)
-  unfolding in-slot
-  step-answer = sym (goes-answer alone 0 named here) ∙ half-answer H alone 0 here e
-
-  step-next : H .mine (left c (step c (H .event-of e))) ≡ left (H .mine c) (H .law (H .mine c) e)
-  unfolding in-slot
-  step-next = ap (H .mine) (sym (goes-record alone 0 named here)) ∙ half-next H alone 0 here e
-
-  step-same : H .other (left c (step c (H .event-of e))) ≡ H .other c
-  unfolding in-slot
-  step-same = ap (H .other) (sym (goes-record alone 0 named here)) ∙ other-same H alone 0 here 0 e
 
 -- what any half of a connection is in the rules'; `in-it` is what the half's own record means
 module _ {P Q E : Type 0} (H : Half P Q E) (in-it : Connection → P) (at-it : (c : Connection) → H .mine (meaning c) ≡ in-it c) where

@@ -1,5 +1,5 @@
--- What an event on a table does to the two halves of its slot's connection, whichever side it is of: that half goes by its own rule, and the
--- other stays. Assumes nothing.
+-- What an event does to the two halves of a connection, whichever side it is of, by value and in a table's slot: that half goes by its own
+-- rule, and the other stays. Assumes nothing.
 use mathlib.Core.Path.{_≡_, refl, ap, _∙_}
 use mathlib.Core.Bool.{false}
 use mathlib.Core.List.{List}
@@ -8,7 +8,6 @@ use lib.ListN.{length, set}
 use lib.Seq.{getD-set-same}
 use Rattle.promise.specs.Outcome.{Outcome, Refused, Done, left, within}
 use Rattle.promise.proofs.Refusing.{Past, none-left}
-use Rattle.promise.proofs.Outcomes.{left-within}
 use Rattle.rules.specs.Receiver.{Receiver}
 use Rattle.rules.specs.Receiving.{Receiving}
 use Rattle.rules.specs.Receiving as receiving
@@ -68,6 +67,25 @@ unfolding answered within
 answered-within whole (Refused n) = refl
 answered-within whole (Done y a) = refl
 
+-- ---- an event of a half, on a connection
+module _ {P Q E : Type 0} (H : Half P Q E) (c : Connection) (e : E) where
+  -- what the law leaves in one half leaves the other
+  left-half : (o : Outcome Answer P)
+      → (H .mine (left c (within (H .with-mine c) o)) ≡ left (H .mine c) o) × (H .other (left c (within (H .with-mine c) o)) ≡ H .other c)
+  unfolding left within
+  left-half (Refused n) = (refl, refl)
+  left-half (Done x a) = (H .has-mine c x, H .has-other c x)
+
+  pub step-answer : answered (step c (H .event-of e)) ≡ answered (H .law (H .mine c) e)
+  step-answer = ap answered (H .by-law c e) ∙ answered-within (H .with-mine c) (H .law (H .mine c) e)
+
+  pub step-next : H .mine (left c (step c (H .event-of e))) ≡ left (H .mine c) (H .law (H .mine c) e)
+  step-next = ap (λ (o : Outcome Answer Connection). H .mine (left c o)) (H .by-law c e) ∙ left-half (H .law (H .mine c) e) .0
+
+  pub step-same : H .other (left c (step c (H .event-of e))) ≡ H .other c
+  step-same = ap (λ (o : Outcome Answer Connection). H .other (left c o)) (H .by-law c e) ∙ left-half (H .law (H .mine c) e) .1
+
+-- ---- and in a table
 pub at-left : (t : List Connection) (slot : ℕ) (o : Outcome Answer Connection) → slot < length t
     → at (left t (within (set t slot) o)) slot ≡ left (at t slot) o
 unfolding left within
@@ -92,33 +110,19 @@ pub still-here : (t : List Connection) (slot : ℕ) (e : Event) (i : ℕ) → ou
 unfolding outside
 still-here t slot e i h = rw (elsewhere t slot e .holds .long) h
 
--- ---- an event of a half
+-- in a slot of the table, likewise
 module _ {P Q E : Type 0} (H : Half P Q E) (t : List Connection) (i : ℕ) (here : outside t i ≡ false) (e : E) where
   abbrev named : Event
   named = event.Use (H .event-of e)
 
-  abbrev c : Connection
-  c = at t i
-
-  by-half : in-slot c named ≡ within (H .with-mine c) (H .law (H .mine c) e)
+  pub half-answer : answered (on t i named) ≡ answered (H .law (H .mine (at t i)) e)
   unfolding in-slot
-  by-half = H .by-law c e
+  half-answer = goes-answer t i named here ∙ step-answer H (at t i) e
 
-  pub half-answer : answered (on t i named) ≡ answered (H .law (H .mine c) e)
-  half-answer = goes-answer t i named here ∙ ap answered by-half ∙ answered-within (H .with-mine c) (H .law (H .mine c) e)
+  pub half-next : H .mine (at (left t (on t i named)) i) ≡ left (H .mine (at t i)) (H .law (H .mine (at t i)) e)
+  unfolding in-slot
+  half-next = ap (H .mine) (goes-record t i named here) ∙ step-next H (at t i) e
 
-  half-record : at (left t (on t i named)) i ≡ left c (within (H .with-mine c) (H .law (H .mine c) e))
-  half-record = goes-record t i named here ∙ ap (left c) by-half
-
-  -- what the law leaves in one half leaves the other
-  left-half : (o : Outcome Answer P)
-      → (H .mine (left c (within (H .with-mine c) o)) ≡ left (H .mine c) o) × (H .other (left c (within (H .with-mine c) o)) ≡ H .other c)
-  unfolding left within
-  left-half (Refused n) = (refl, refl)
-  left-half (Done x a) = (H .has-mine c x, H .has-other c x)
-
-  pub half-next : H .mine (at (left t (on t i named)) i) ≡ left (H .mine c) (H .law (H .mine c) e)
-  half-next = ap (H .mine) half-record ∙ left-half (H .law (H .mine c) e) .0
-
-  pub half-same : H .other (at (left t (on t i named)) i) ≡ H .other c
-  half-same = ap (H .other) half-record ∙ left-half (H .law (H .mine c) e) .1
+  pub half-same : H .other (at (left t (on t i named)) i) ≡ H .other (at t i)
+  unfolding in-slot
+  half-same = ap (H .other) (goes-record t i named here) ∙ step-same H (at t i) e
