@@ -1,23 +1,41 @@
 // Replays a log from standard input: a line for each record, then what ends the log. A read that fails counts as the end of the input.
+ghost use mathlib.Core.Path.{_≡_};
+ghost use Prim.Native.Nat.{_+_, _≤_};
+ghost use lib.ListN.{length, take};
+ghost use Rattle.lines.specs.Text.{Puts};
+ghost use Rattle.paper.specs.Shown.{most};
+ghost use Rattle.player.specs.Play.{Sound};
+ghost use Rattle.rules.specs.Numbers.{longest-log};
+ghost use Rattle.rules.specs.Replay.{line, stop as stop-of, replay as replay-of};
+ghost use Rattle.replay.specs.Text.{spaced, line-text, last-text, offset-of, head-text, text-of};
+ghost use Rattle.replay.specs.Piece.{Pieces};
 use paper::Shown;
 use paper::VALUES;
 use player::State;
+use rules::Answer;
 use rules::LONGEST_LOG;
-use rules::RECORD_HEAD;
 
 // The longest log and one byte more, so that a longer one is seen.
 const INPUT: usize = LONGEST_LOG + 1;
 
-// One more than the most records that a log has: each has at least its head.
-const RECORDS: usize = LONGEST_LOG / RECORD_HEAD + 1;
+// The most bytes of a line: its numbers have at most 20 digits, with the space or the end of the line behind each.
+const LINE: usize = 21 * (VALUES + 2);
 
-// Room for the longest line, and for the text between two writes.
-const LINE: usize = 160;
-
+// Room for the text between two writes.
 const TEXT: usize = 65_536;
 
+// A piece of the text: how many bytes of the buffer it takes, where the replay stands after it, and whether more follows.
+struct Piece {
+    length: usize,
+    state: State,
+    more: bool,
+}
+
 // The values of a line.
-fn push_values(out: &mut [u8], at: usize, s: Shown) -> usize {
+fn push_values(out: &mut [u8], at: usize, s: Shown) -> usize
+    requires { ⌜ length (s .values) ≡ most ⌝ }
+    ensures { λ r. ⌜ Puts (now (out .entry)) at (spaced (take (s .many) (s .values))) (now (out .exit)) r ⌝ }
+{
     let values = s.values;
     let many = s.many;
     let mut p = at;
@@ -33,35 +51,20 @@ fn push_values(out: &mut [u8], at: usize, s: Shown) -> usize {
 }
 
 // A record's line: its kind, the answer's number and, if that is 0, its values.
-fn push_line(out: &mut [u8], at: usize, kind: u8, s: Shown) -> usize {
+fn push_line(out: &mut [u8], at: usize, kind: u8, answer: Answer) -> usize
+    ensures { λ r. ⌜ Puts (now (out .entry)) at (line-text (line (record { kind = kind; answer = answer }))) (now (out .exit)) r ⌝ }
+{
+    let s = paper::line_of(answer);
     let a = lines::push_number(out, at, kind as u64);
     let b = lines::push_next(out, a, s.number as u64);
     let c = push_values(out, b, s);
     lines::push(out, c, b'\n')
 }
 
-// Writes the first n bytes of out, or all of it.
-fn write_first(out: &[u8], n: usize) {
-    if n <= out.len() {
-        io::write_all(1, &out[..n]);
-    } else {
-        io::write_all(1, out);
-    }
-}
-
-// Writes what is put so far if another line might not fit. The index to go on from.
-fn write_if_full(out: &[u8], n: usize) -> usize {
-    if n <= out.len() {
-        if LINE <= out.len() - n {
-            return n;
-        }
-    }
-    write_first(out, n);
-    0
-}
-
 // What ends the log: `end N`, or `log R at O`.
-fn push_last(out: &mut [u8], at: usize, stop: u8, place: usize, count: usize) -> usize {
+fn push_last(out: &mut [u8], at: usize, stop: u8, place: usize, count: usize) -> usize
+    ensures { λ r. ⌜ Puts (now (out .entry)) at (last-text (stop-of stop place count)) (now (out .exit)) r ⌝ }
+{
     if stop == 0 {
         let end = *b"end";
         let a = lines::push_bytes(out, at, &end);
@@ -78,39 +81,78 @@ fn push_last(out: &mut [u8], at: usize, stop: u8, place: usize, count: usize) ->
 }
 
 // The offset of the bad record's first byte; the longest log's length for one that is too long.
-fn offset(stop: u8, place: usize) -> u64 {
+fn offset(stop: u8, place: usize) -> u64
+    ensures { λ r. ⌜ r ≡ offset-of stop place ⌝ }
+{
     if stop == 13 {
         return LONGEST_LOG as u64;
     }
     place as u64
 }
 
-// Turn after turn, until the log ends.
-fn run(log: &[u8], out: &mut [u8]) {
-    let head = *b"mrc log 1\n";
-    let mut n = lines::push_bytes(out, 0, &head);
-    let mut state = State::begin();
-    let mut left = RECORDS;
-    while 0 < left {
-        let t = state.turn(log);
+// The first line.
+fn head(out: &mut [u8]) -> usize
+    ensures { λ r. ⌜ Puts (now (out .entry)) 0 head-text (now (out .exit)) r ⌝ }
+{
+    let text = *b"mrc log 1\n";
+    lines::push_bytes(out, 0, &text)
+}
+
+// Whole lines from an index on, turn after turn, for as long as another surely fits.
+fn fill(state: State, log: &[u8], out: &mut [u8], from: usize) -> Piece
+    requires { ⌜ Sound state ⌝ }
+    requires { ⌜ from ≤ length (now out) ⌝ }
+    ensures { λ r. ⌜ Pieces (now (log .entry)) state from (now (out .entry)) r (now (out .exit)) ⌝ }
+{
+    let mut here = state;
+    let mut at = from;
+    while LINE <= out.len() - at {
+        let t = here.turn(log);
         let next = t.state;
         let answer = t.answer;
-        state = next;
         if !t.more {
-            let end = push_last(out, n, t.stop, next.place, next.count);
-            write_first(out, end);
-            return;
+            let end = push_last(out, at, t.stop, here.place, here.count);
+            return Piece {
+                length: end,
+                state: next,
+                more: false,
+            };
         }
-        n = push_line(out, n, t.kind, paper::line_of(answer));
-        n = write_if_full(out, n);
-        left -= 1;
+        at = push_line(out, at, t.kind, answer);
+        here = next;
     }
-    write_first(out, n);
+    Piece {
+        length: at,
+        state: here,
+        more: true,
+    }
+}
+
+// The head, then piece after piece: each is written as it is made. The length of it all.
+fn write(log: &[u8]) -> usize
+    requires { ⌜ length (now log) ≤ longest-log + 1 ⌝ }
+    ensures { λ r. ⌜ r ≡ length (text-of (replay-of (now (log .entry)))) ⌝ }
+{
+    let mut out = [0u8; TEXT];
+    let mut at = head(&mut out);
+    let mut state = State::begin();
+    let mut total: usize = 0;
+    loop {
+        let p = fill(state, log, &mut out, at);
+        let length = p.length;
+        let next = p.state;
+        io::write_all(1, &out[..length]);
+        total += length;
+        if !p.more {
+            return total;
+        }
+        state = next;
+        at = 0;
+    }
 }
 
 fn main() {
     let mut buffer = [0u8; INPUT];
     let n = io::read_full(0, &mut buffer);
-    let mut text = [0u8; TEXT];
-    run(&buffer[..n], &mut text);
+    write(&buffer[..n]);
 }

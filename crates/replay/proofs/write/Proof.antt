@@ -1,0 +1,87 @@
+-- `write` meets its contract: what is written so far is the start of a run of pieces, and what is left of the log falls. Assumes nothing.
+use borrow.Author.Needs.{needs}
+use borrow.Author.Tests.{not-true, not-false}
+use mathlib.Core.Path.{_≡_, sym, _∙_}
+use Prim.Native.Nat.{ℕ, _-_}
+use native.Mathlib.Omega.{arith}
+use lib.ListN.{length, replicate, length-replicate}
+use lib.Seq.{length-take-le}
+use Rattle.replay.proofs.Writing.{buffer, Written, written-none, written-more, written-ends}
+use Rattle.replay.proofs.write.Statement.{statement}
+use Rattle.replay.proofs.write.Tie as tie
+
+abbrev Inv-loop : tie.InvT-loop
+Inv-loop log out₀ at₀ state₀ total₀ out at state total = Written log out at state total
+
+abbrev μ-loop : tie.MeasureT-loop
+μ-loop log out₀ at₀ state₀ total₀ out at state total = length log - state .place
+
+slice-aggregate-head : tie.Need-slice-aggregate-head Inv-loop μ-loop
+slice-aggregate-head c = sym (length-replicate {A = ℕ} buffer 0)
+
+head-requires : tie.Need-head-requires Inv-loop μ-loop
+head-requires c κs = search needs
+
+begin-requires : tie.Need-begin-requires Inv-loop μ-loop
+begin-requires c κs = search needs
+
+loop-holds : tie.Need-loop-holds Inv-loop μ-loop
+loop-holds c =
+    written-none (c .before .before .before .before .before .args .log .now) (replicate buffer 0) (c .before .before .head .last .0) (c .before .before .head .result) (c .begin .result) (length-replicate {A = ℕ} buffer 0)
+    (c .before .before .head .ensures) (c .begin .ensures)
+
+slice-aggregate-fill : tie.Need-slice-aggregate-fill Inv-loop μ-loop
+slice-aggregate-fill c = sym (c .before .loop .inv .long)
+
+fill-requires : tie.Need-fill-requires Inv-loop μ-loop
+fill-requires c κs = (c .before .loop .inv .sound, omega (arith, c .before .loop .inv .low))
+
+array-share-prefix-out : tie.Need-array-share-prefix-out Inv-loop μ-loop
+array-share-prefix-out c = c .before .before .fill .ensures .fits
+
+slice-aggregate-write-all : tie.Need-slice-aggregate-write-all Inv-loop μ-loop
+slice-aggregate-write-all c = sym (length-take-le (c .before .before .before .fill .result .length) (c .before .before .before .fill .last .1 .1 .0) (c .before .before .before .fill .ensures .fits))
+
+write-all-requires : tie.Need-write-all-requires Inv-loop μ-loop
+write-all-requires c κs = search needs
+
+add-total : tie.Need-add-total Inv-loop μ-loop
+add-total c =
+    let inv = c .before .before .before .before .before .before .loop .inv in
+    let made = c .before .before .before .before .fill .ensures in
+    record { fits = omega (arith, inv .few, inv .within, inv .long, made .fits, made .long, c .before .before .before .before .before .before .before .before .before .before .before .before .pre) }
+
+returns : tie.Need-returns Inv-loop μ-loop
+returns c =
+    written-ends (c .before .before .before .before .before .before .before .before .before .before .before .before .before .before .args .log .now) (c .before .before .before .before .before .before .before .before .loop .out) (c .before .before .before .before .before .before .before .before .loop .at) (c .before .before .before .before .before .before .before .before .loop .state) (c .before .before .before .before .before .before .before .before .loop .total) (c .before .before .before .before .before .before .before .before .loop .inv) (c .before .before .before .before .before .before .fill .result)
+    (c .before .before .before .before .before .before .fill .last .1 .1 .0) (c .before .before .before .before .before .before .fill .ensures) (not-true _ (c .if1 .taken))
+
+loop-less : tie.Need-loop-less Inv-loop μ-loop
+loop-less c =
+    let further = c .before .before .before .before .before .before .fill .ensures .further (not-false _ (c .if1 .left)) (c .before .before .before .before .before .before .before .before .loop .inv .low) in
+    omega arith
+
+loop-again : tie.Need-loop-again Inv-loop μ-loop
+loop-again c =
+    written-more (c .before .before .before .before .before .before .before .before .before .before .before .before .before .before .args .log .now) (c .before .before .before .before .before .before .before .before .loop .out) (c .before .before .before .before .before .before .before .before .loop .at) (c .before .before .before .before .before .before .before .before .loop .state) (c .before .before .before .before .before .before .before .before .loop .total) (c .before .before .before .before .before .before .before .before .loop .inv) (c .before .before .before .before .before .before .fill .result)
+    (c .before .before .before .before .before .before .fill .last .1 .1 .0) (c .before .before .before .before .before .before .fill .ensures) (not-false _ (c .if1 .left))
+
+pub write-spec : {M : Type 1} → statement M
+write-spec =
+    tie.close
+    (tie.spec
+    Inv-loop
+    μ-loop
+    slice-aggregate-head
+    head-requires
+    begin-requires
+    loop-holds
+    slice-aggregate-fill
+    fill-requires
+    array-share-prefix-out
+    slice-aggregate-write-all
+    write-all-requires
+    add-total
+    returns
+    loop-less
+    loop-again)

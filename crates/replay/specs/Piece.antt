@@ -1,0 +1,44 @@
+-- What a piece of the text promises, and what the pieces that `write` makes amount to.
+use mathlib.Core.Path.{_≡_}
+use mathlib.Core.Bool.{true, false}
+use mathlib.Core.List.{List, [], _∷_, _++_}
+use Prim.Native.Nat.{ℕ, _+_, _≤_, _<_}
+use lib.ListN.{length, take}
+use Rattle.rules.specs.Replay.{Replied, Last}
+use Rattle.player.specs.declared.State.{State}
+use Rattle.player.specs.declared.Turn.{Turn}
+use Rattle.player.specs.Play.{Sound, Turned, Plays}
+use Rattle.replay.specs.declared.Piece.{Piece}
+use Rattle.replay.specs.Text.{lines-text, last-text}
+
+-- the most bytes of a line: 10 numbers of at most 20 digits, with the space or the end of the line behind each
+abbrev pub line-room : ℕ
+line-room = 210
+
+-- turns that answer these lines lead from one state to the other
+pub data Turns (log : List ℕ) : State → List Replied → State → Type 0 where
+  none : {x : State} → Turns log x [] x
+  one-more : {x y : State} (r : Turn) {l : List Replied} → Turned log x r → r .more ≡ true → Turns log (r .state) l y
+      → Turns log x (record { kind = r .kind; answer = r .answer } ∷ l) y
+
+-- where more follows, these are the lines of some turns from x on; where not, of all that are left, and the last line
+pub record Tells (log : List ℕ) (x : State) (front : List ℕ) (r : Piece) (text : List ℕ) : Type 0 where
+  pub goes-on : r .more ≡ true → (l : List Replied) × Turns log x l (r .state) × (text ≡ front ++ lines-text l)
+  pub ends : r .more ≡ false → (l : List Replied) × (last : Last) × Plays log x l last × (text ≡ front ++ (lines-text l ++ last-text last))
+
+-- what `fill` promises: the buffer keeps its length; its first bytes, as many as the piece says, are those before the index and the text
+-- of the turns from x on. Where a whole line fits and more follows, the place in the log goes on.
+pub record Pieces (log : List ℕ) (x : State) (from : ℕ) (before : List ℕ) (r : Piece) (after : List ℕ) : Type 0 where
+  pub long : length after ≡ length before
+  pub fits : r .length ≤ length after
+  pub text : Tells log x (take from before) r (take (r .length) after)
+  pub sound : Sound (r .state)
+  pub further : r .more ≡ true → from + line-room ≤ length before → (x .place < r .state .place) × (r .state .place ≤ length log)
+
+-- The loop of `write`: all that it writes from x on, where `front` stands in the buffer already. Each piece is any that its promise
+-- allows, and what it takes of the buffer is written; the next begins at the buffer's start.
+pub data Writes (log : List ℕ) : State → List ℕ → List ℕ → Type 0 where
+  ends : {x : State} {front : List ℕ} (from : ℕ) (before : List ℕ) (r : Piece) (after : List ℕ) → take from before ≡ front
+      → Pieces log x from before r after → r .more ≡ false → Writes log x front (take (r .length) after)
+  goes-on : {x : State} {front : List ℕ} (from : ℕ) (before : List ℕ) (r : Piece) (after : List ℕ) {rest : List ℕ} → take from before ≡ front
+      → Pieces log x from before r after → r .more ≡ true → Writes log (r .state) [] rest → Writes log x front (take (r .length) after ++ rest)
