@@ -72,12 +72,13 @@ written-none log before out at x h p e =
       rest = λ text r. (text, subst (λ (f : List ℕ). Writes log begin f text) (w .bytes) r, omega arith);
     })
 
+-- a piece more, whose bytes are n
 module _ (log out : List ℕ) (at : ℕ) (x : State) (total : ℕ) (w : Written log out at x total) (r : Piece) (after : List ℕ)
-    (p : Pieces log x at out r after) where
-  taken : length (take (r .length) after) ≡ r .length
-  taken = length-take-le (r .length) after (p .fits)
+    (p : Pieces log x at out r after) (n : ℕ) (h : n ≡ length (take (r .length) after)) where
+  pub written-low : n ≤ buffer
+  written-low = omega (arith, p .fits, p .long, w .long, length-take-le (r .length) after (p .fits))
 
-  pub written-more : r .more ≡ true → Written log after 0 (r .state) (total + r .length)
+  pub written-more : r .more ≡ true → Written log after 0 (r .state) (total + n)
   written-more m =
       let further = p .further m (w .low) in
       record {
@@ -85,13 +86,13 @@ module _ (log out : List ℕ) (at : ℕ) (x : State) (total : ℕ) (w : Written 
         low = omega (arith, p .long, w .long);
         sound = p .sound;
         within = further .1;
-        few = omega (arith, p .fits, p .long, w .long, w .few);
+        few = omega (arith, written-low, w .few);
         rest = λ text v.
             let all = w .rest (take (r .length) after ++ text) (goes-on at out r after refl p m v) in
-            (all .0, all .1, omega (arith, taken, all .2, length-append (take (r .length) after) text));
+            (all .0, all .1, omega (arith, h, all .2, length-append (take (r .length) after) text));
       }
 
-  pub written-ends : r .more ≡ false → total + r .length ≡ length (text-of (replay log))
+  pub written-ends : r .more ≡ false → total + n ≡ length (text-of (replay log))
   written-ends m =
       let all = w .rest (take (r .length) after) (ends at out r after refl p m) in
-      omega (arith, taken, all .2, ap length (writes-replay log (all .0) (all .1)))
+      omega (arith, h, all .2, ap length (writes-replay log (all .0) (all .1)))

@@ -128,6 +128,14 @@ fn fill(state: State, log: &[u8], out: &mut [u8], from: usize) -> Piece
     }
 }
 
+// Writes bytes. How many they are.
+fn print(bytes: &[u8]) -> usize
+    ensures { λ r. ⌜ r ≡ length (now (bytes .entry)) ⌝ }
+{
+    io::write_all(1, bytes);
+    bytes.len()
+}
+
 // The head, then piece after piece: each is written as it is made. The length of it all.
 fn write(log: &[u8]) -> usize
     requires { ⌜ length (now log) ≤ longest-log + 1 ⌝ }
@@ -141,8 +149,7 @@ fn write(log: &[u8]) -> usize
         let p = fill(state, log, &mut out, at);
         let length = p.length;
         let next = p.state;
-        io::write_all(1, &out[..length]);
-        total += length;
+        total += print(&out[..length]);
         if !p.more {
             return total;
         }

@@ -6,7 +6,7 @@ use Prim.Native.Nat.{ℕ, _-_}
 use native.Mathlib.Omega.{arith}
 use lib.ListN.{length, replicate, length-replicate}
 use lib.Seq.{length-take-le}
-use Rattle.replay.proofs.Writing.{buffer, Written, written-none, written-more, written-ends}
+use Rattle.replay.proofs.Writing.{buffer, Written, written-none, written-low, written-more, written-ends}
 use Rattle.replay.proofs.write.Statement.{statement}
 use Rattle.replay.proofs.write.Tie as tie
 
@@ -39,22 +39,24 @@ fill-requires c κs = (c .before .loop .inv .sound, omega (arith, c .before .loo
 array-share-prefix-out : tie.Need-array-share-prefix-out Inv-loop μ-loop
 array-share-prefix-out c = c .before .before .fill .ensures .fits
 
-slice-aggregate-write-all : tie.Need-slice-aggregate-write-all Inv-loop μ-loop
-slice-aggregate-write-all c = sym (length-take-le (c .before .before .before .fill .result .length) (c .before .before .before .fill .last .1 .1 .0) (c .before .before .before .fill .ensures .fits))
+slice-aggregate-print : tie.Need-slice-aggregate-print Inv-loop μ-loop
+slice-aggregate-print c = sym (length-take-le (c .before .before .before .fill .result .length) (c .before .before .before .fill .last .1 .1 .0) (c .before .before .before .fill .ensures .fits))
 
-write-all-requires : tie.Need-write-all-requires Inv-loop μ-loop
-write-all-requires c κs = search needs
+print-requires : tie.Need-print-requires Inv-loop μ-loop
+print-requires c κs = search needs
 
 add-total : tie.Need-add-total Inv-loop μ-loop
 add-total c =
     let inv = c .before .before .before .before .before .before .loop .inv in
-    let made = c .before .before .before .before .fill .ensures in
-    record { fits = omega (arith, inv .few, inv .within, inv .long, made .fits, made .long, c .before .before .before .before .before .before .before .before .before .before .before .before .pre) }
+    let low =
+    written-low (c .before .before .before .before .before .before .before .before .before .before .before .before .args .log .now) (c .before .before .before .before .before .before .loop .out) (c .before .before .before .before .before .before .loop .at) (c .before .before .before .before .before .before .loop .state) (c .before .before .before .before .before .before .loop .total) inv (c .before .before .before .before .fill .result)
+    (c .before .before .before .before .fill .last .1 .1 .0) (c .before .before .before .before .fill .ensures) (c .print .result) (c .print .ensures) in
+    record { fits = omega (arith, inv .few, inv .within, c .before .before .before .before .before .before .before .before .before .before .before .before .pre) }
 
 returns : tie.Need-returns Inv-loop μ-loop
 returns c =
     written-ends (c .before .before .before .before .before .before .before .before .before .before .before .before .before .before .args .log .now) (c .before .before .before .before .before .before .before .before .loop .out) (c .before .before .before .before .before .before .before .before .loop .at) (c .before .before .before .before .before .before .before .before .loop .state) (c .before .before .before .before .before .before .before .before .loop .total) (c .before .before .before .before .before .before .before .before .loop .inv) (c .before .before .before .before .before .before .fill .result)
-    (c .before .before .before .before .before .before .fill .last .1 .1 .0) (c .before .before .before .before .before .before .fill .ensures) (not-true _ (c .if1 .taken))
+    (c .before .before .before .before .before .before .fill .last .1 .1 .0) (c .before .before .before .before .before .before .fill .ensures) (c .before .before .print .result) (c .before .before .print .ensures) (not-true _ (c .if1 .taken))
 
 loop-less : tie.Need-loop-less Inv-loop μ-loop
 loop-less c =
@@ -64,7 +66,7 @@ loop-less c =
 loop-again : tie.Need-loop-again Inv-loop μ-loop
 loop-again c =
     written-more (c .before .before .before .before .before .before .before .before .before .before .before .before .before .before .args .log .now) (c .before .before .before .before .before .before .before .before .loop .out) (c .before .before .before .before .before .before .before .before .loop .at) (c .before .before .before .before .before .before .before .before .loop .state) (c .before .before .before .before .before .before .before .before .loop .total) (c .before .before .before .before .before .before .before .before .loop .inv) (c .before .before .before .before .before .before .fill .result)
-    (c .before .before .before .before .before .before .fill .last .1 .1 .0) (c .before .before .before .before .before .before .fill .ensures) (not-false _ (c .if1 .left))
+    (c .before .before .before .before .before .before .fill .last .1 .1 .0) (c .before .before .before .before .before .before .fill .ensures) (c .before .before .print .result) (c .before .before .print .ensures) (not-false _ (c .if1 .left))
 
 pub write-spec : {M : Type 1} → statement M
 write-spec =
@@ -79,8 +81,8 @@ write-spec =
     slice-aggregate-fill
     fill-requires
     array-share-prefix-out
-    slice-aggregate-write-all
-    write-all-requires
+    slice-aggregate-print
+    print-requires
     add-total
     returns
     loop-less
