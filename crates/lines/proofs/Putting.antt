@@ -10,6 +10,9 @@ unfolding put
 length-put [] out at = refl
 length-put (b ∷ t) out at = length-put t (set out at b) (next (length out) at) ∙ length-set out at b
 
+pub puts-long : {text before after : List ℕ} {at r : ℕ} → Puts before at text after r → length after ≡ length before
+puts-long {text} {before} {at = at} p = ap length (p .bytes-are) ∙ length-put text before at
+
 -- a text behind a text goes from where the first ended
 pub put-more : (t u out : List ℕ) (at : ℕ) → put out at (t ++ u) ≡ put (put out at t) (past (length out) at t) u
 unfolding put past
@@ -24,10 +27,10 @@ past-more [] u n at = refl
 past-more (b ∷ t) u n at = past-more t u n (next n at)
 
 -- one call behind another
-pub puts-more : (t u before middle after : List ℕ) (at p r : ℕ) → Puts before at t middle p → Puts middle p u after r
+pub puts-more : {t u before middle after : List ℕ} {at p r : ℕ} → Puts before at t middle p → Puts middle p u after r
     → Puts before at (t ++ u) after r
-puts-more t u before middle after at p r f s = record {
+puts-more {t} {u} {before} {at = at} f s = record {
   bytes-are = s .bytes-are ∙ ap₂ (λ (l : List ℕ) (i : ℕ). put l i u) (f .bytes-are) (f .index-is) ∙ sym (put-more t u before at);
-  index-is = s .index-is ∙ ap₂ (λ (n i : ℕ). past n i u) (ap length (f .bytes-are) ∙ length-put t before at) (f .index-is)
+  index-is = s .index-is ∙ ap₂ (λ (n i : ℕ). past n i u) (puts-long f) (f .index-is)
       ∙ sym (past-more t u (length before) at);
 }

@@ -1,16 +1,15 @@
 -- With room for all of it a text stands whole behind the bytes before its index, by induction on the text; and a number takes at most 20
 -- bytes. Assumes nothing.
-use mathlib.Core.Path.{_≡_, refl, sym, ap, _∙_}
+use mathlib.Core.Path.{_≡_, ap, _∙_}
 use mathlib.Core.List.{List, [], _∷_, _++_, append-assoc, append-nil}
-use Prim.Native.Nat.{ℕ, zero, suc, _+_, _/_, _%_, _≤_}
-use native.Mathlib.Numerals.{add-one}
+use Prim.Native.Nat.{ℕ, zero, suc, _+_, _/_, _≤_}
 use native.Mathlib.Omega.{arith}
 use native.Mathlib.Decide.{decLt}
 use borrow.Author.Tests.{lt-ltb, le-ltb}
 use lib.ListN.{length, take, set, length-append, length-set}
 use lib.Seq.{take-suc-set}
 use Rattle.lines.specs.Text.{digits-of, decimal, next, put, past, Puts}
-use Rattle.lines.proofs.Putting.{length-put}
+use Rattle.lines.proofs.Putting.{puts-long}
 
 pub past-room : (t : List ℕ) (n at : ℕ) → at + length t ≤ n → past n at t ≡ at + length t
 unfolding past next
@@ -32,12 +31,12 @@ pub record Whole (before : List ℕ) (at : ℕ) (text after : List ℕ) (r : ℕ
   pub index : r ≡ at + length text
   pub bytes : take r after ≡ take at before ++ text
 
-pub puts-whole : (before : List ℕ) (at : ℕ) (text after : List ℕ) (r : ℕ) → Puts before at text after r → at + length text ≤ length before
+pub puts-whole : {before : List ℕ} {at : ℕ} {text after : List ℕ} {r : ℕ} → Puts before at text after r → at + length text ≤ length before
     → Whole before at text after r
-puts-whole before at text after r p h =
+puts-whole {before} {at} {text} {after} {r} p h =
     let index : r ≡ at + length text = p .index-is ∙ past-room text (length before) at h in
     record {
-      long = ap length (p .bytes-are) ∙ length-put text before at;
+      long = puts-long p;
       index = index;
       bytes = rw (index, p .bytes-are) (put-room text before at h);
     }

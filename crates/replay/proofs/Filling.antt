@@ -2,21 +2,20 @@
 use mathlib.Core.Path.{_≡_, refl, sym, ap, _∙_}
 use mathlib.Core.Bool.{true, false, false≢true}
 use mathlib.Core.List.{List, [], _∷_, _++_, append-assoc, append-nil}
-use Prim.Native.Nat.{ℕ, zero, suc, _+_, _-_, _≤_, _<_}
+use Prim.Native.Nat.{ℕ, _+_, _-_, _≤_, _<_}
 use native.Mathlib.Omega.{arith}
-use lib.ListN.{length, take, length-append}
+use lib.ListN.{length, take}
 use lib.Seq.{length-take-le}
-use Rattle.rules.specs.Replay.{Replied, Last, line, stop}
+use Rattle.rules.specs.Replay.{Replied, line, stop}
 use Rattle.player.specs.declared.State.{State}
 use Rattle.player.specs.declared.Turn.{Turn}
 use Rattle.player.specs.Play.{Sound, Turned, stops}
 use Rattle.lines.specs.Text.{Puts}
-use Rattle.lines.proofs.Room.{Whole, puts-whole}
-use Rattle.replay.specs.declared.Piece.{Piece}
+use Rattle.lines.proofs.Room.{puts-whole}
 use Rattle.replay.specs.Text.{line-text, lines-text, last-text}
-use Rattle.replay.specs.Piece.{line-room, Turns, none, Tells, Pieces}
+use Rattle.replay.specs.Piece.{line-room, Turns, none, Pieces}
 use Rattle.replay.proofs.Telling.{line-short, last-short}
-use Rattle.replay.proofs.Turning.{told, Further, lines-more, turns-further, turns-more, turns-plays}
+use Rattle.replay.proofs.Turning.{told, lines-more, turns-further, turns-more, turns-plays}
 
 -- the text of some turns stands behind the first bytes
 pub record Filled (log : List ℕ) (x : State) (from : ℕ) (before out : List ℕ) (y : State) (at : ℕ) : Type 0 where
@@ -27,29 +26,30 @@ pub record Filled (log : List ℕ) (x : State) (from : ℕ) (before out : List �
   pub turns : Turns log x lines y
   pub text : take at out ≡ take from before ++ lines-text lines
 
-pub filled-none : (log : List ℕ) (x : State) (from : ℕ) (before : List ℕ) → Sound x → from ≤ length before → Filled log x from before before x from
+pub filled-none : (log : List ℕ) (x : State) (from : ℕ) (before : List ℕ) → Sound x → from ≤ length before
+    → Filled log x from before before x from
 unfolding lines-text
 filled-none log x from before s h =
     record { long = refl; within = h; sound = s; lines = []; turns = none; text = sym (append-nil (take from before)) }
 
-module _ (log : List ℕ) (x : State) (from : ℕ) (before out : List ℕ) (y : State) (at : ℕ) (f : Filled log x from before out y at) where
+module _ {log : List ℕ} {x : State} {from : ℕ} {before out : List ℕ} {y : State} {at : ℕ} (f : Filled log x from before out y at) where
   lines-one : (r : Turn) → lines-text (told r ∷ []) ≡ line-text (line (told r))
   unfolding lines-text
   lines-one r = append-nil (line-text (line (told r)))
 
   -- one line more
-  pub filled-more : (r : Turn) (after : List ℕ) (p : ℕ) → Turned log y r → r .more ≡ true → line-room ≤ length out - at
+  pub filled-more : {r : Turn} {after : List ℕ} {p : ℕ} → Turned log y r → r .more ≡ true → line-room ≤ length out - at
       → Puts out at (line-text (line (told r))) after p → Filled log x from before after (r .state) p
-  filled-more r after p t m h q =
+  filled-more {r} t m h q =
       let short = line-short (told r) in
-      let w = puts-whole out at (line-text (line (told r))) after p q (omega (arith, f .within)) in
+      let w = puts-whole q (omega (arith, f .within)) in
       let text = lines-more (f .lines) (told r ∷ []) ∙ ap (λ (u : List ℕ). lines-text (f .lines) ++ u) (lines-one r) in
       record {
         long = w .long ∙ f .long;
         within = omega (arith, w .long, w .index, f .within);
         sound = t .sound;
         lines = f .lines ++ (told r ∷ []);
-        turns = turns-more log r (f .turns) t m;
+        turns = turns-more (f .turns) t m;
         text = w .bytes ∙ rw (f .text, text, append-assoc);
       }
 
@@ -70,18 +70,18 @@ module _ (log : List ℕ) (x : State) (from : ℕ) (before out : List ℕ) (y : 
     fits = f .within;
     text = record { goes-on = λ _. (f .lines, f .turns, f .text); ends = λ e. absurd (false≢true (sym e)) };
     sound = f .sound;
-    further = λ _ k. turns-further log (f .turns) (some-line (f .lines) (f .text) k h);
+    further = λ _ k. turns-further (f .turns) (some-line (f .lines) (f .text) k h);
   }
 
   -- the last line
-  pub filled-ends : (r : Turn) (after : List ℕ) (p : ℕ) → Turned log y r → r .more ≡ false → line-room ≤ length out - at
+  pub filled-ends : {r : Turn} {after : List ℕ} {p : ℕ} → Turned log y r → r .more ≡ false → line-room ≤ length out - at
       → Puts out at (last-text (stop (r .stop) (y .place) (y .count))) after p
       → Pieces log x from before (record { length = p; state = r .state; more = false }) after
-  filled-ends r after p t m h q =
+  filled-ends {r} t m h q =
       let last = stop (r .stop) (y .place) (y .count) in
       let short = last-short last in
-      let w = puts-whole out at (last-text last) after p q (omega (arith, f .within)) in
-      let plays = turns-plays log (f .turns) (stops r t m) in
+      let w = puts-whole q (omega (arith, f .within)) in
+      let plays = turns-plays (f .turns) (stops r t m) in
       record {
         long = w .long ∙ f .long;
         fits = omega (arith, w .long, w .index, f .within);

@@ -1,12 +1,11 @@
 -- The text of a line is that of its parts, one behind the other, and every line fits in its room. Assumes nothing.
-use mathlib.Core.Path.{_≡_, refl, sym, ap, _∙_}
+use mathlib.Core.Path.{_≡_, refl, _∙_}
 use mathlib.Core.List.{List, [], _∷_, _++_, append-assoc, append-nil}
 use Prim.Native.Nat.{ℕ, zero, suc, _+_, _*_, _≤_, _<_}
 use native.Mathlib.Numerals.{add-one}
 use native.Mathlib.Omega.{arith}
 use lib.ListN.{length, take, getD, replicate, length-append, length-replicate}
-use lib.Seq.{length-take-le, take-suc, take-all, take-take, take-append-seam}
-use Rattle.rules.specs.Numbers.{longest-log}
+use lib.Seq.{length-take-le, take-suc, take-take, take-append-seam}
 use Rattle.rules.specs.Paper.{paper}
 use Rattle.rules.specs.Replay.{Replied, Last, End, Log, line, stop}
 use Rattle.rules.specs.declared.Answer.{Answer}
@@ -14,7 +13,7 @@ use Rattle.rules.specs.declared.Answer.the-variants as answer
 use Rattle.paper.specs.Shown.{most}
 use Rattle.lines.specs.Text.{decimal}
 use Rattle.lines.proofs.Room.{decimal-short}
-use Rattle.replay.specs.Text.{spaced, line-text, lines-text, last-text, offset-of}
+use Rattle.replay.specs.Text.{spaced, line-text, last-text, offset-of}
 use Rattle.replay.specs.Piece.{line-room}
 
 -- one number more

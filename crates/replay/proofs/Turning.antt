@@ -30,36 +30,36 @@ lines-more (r ∷ l) m = rw (lines-more l m, append-assoc)
 abbrev pub Further : List ℕ → State → State → Type 0
 Further log x y = (x .place < y .place) × (y .place ≤ length log)
 
-module _ (log : List ℕ) where
-  further-by : (x : State) (r : Turn) (v : Read) → By x r v → r .more ≡ true → read log (x .place) ≡ v → Further log x (r .state)
-  unfolding By
-  further-by x r (Record slot e kind next) b h f =
-      let moved = read-kind log (x .place) slot e kind next f in
-      (omega (arith, b .place-is, moved .1), omega (arith, b .place-is, moved .2))
-  further-by x r (Nothing n) b h f = absurd (false≢true (sym (b .more-is) ∙ h))
+further-by : (log : List ℕ) (x : State) (r : Turn) (v : Read) → By x r v → r .more ≡ true → read log (x .place) ≡ v → Further log x (r .state)
+unfolding By
+further-by log x r (Record slot e kind next) b h f =
+    let moved = read-kind log (x .place) slot e kind next f in
+    (omega (arith, b .place-is, moved .1), omega (arith, b .place-is, moved .2))
+further-by log x r (Nothing n) b h f = absurd (false≢true (sym (b .more-is) ∙ h))
 
-  pub turn-further : (x : State) (r : Turn) → Turned log x r → r .more ≡ true → Further log x (r .state)
-  turn-further x r t h = further-by x r (read log (x .place)) (t .by-rule) h refl
+module _ {log : List ℕ} where
+  pub turn-further : {x : State} {r : Turn} → Turned log x r → r .more ≡ true → Further log x (r .state)
+  turn-further {x} {r} t h = further-by log x r (read log (x .place)) (t .by-rule) h refl
 
   turns-stay : {x y : State} {l : List Replied} → Turns log x l y → x .place ≤ length log → (x .place ≤ y .place) × (y .place ≤ length log)
   turns-stay none h = (omega arith, h)
-  turns-stay (one-more {x = x} r t m p) h =
-      let one = turn-further x r t m in
+  turns-stay (one-more r t m p) h =
+      let one = turn-further t m in
       let rest = turns-stay p (one .1) in
       (omega arith, rest .1)
 
   pub turns-further : {x y : State} {l : List Replied} → Turns log x l y → 0 < length l → Further log x y
   turns-further none h = absurd (omega arith)
-  turns-further (one-more {x = x} r t m p) h =
-      let one = turn-further x r t m in
+  turns-further (one-more r t m p) h =
+      let one = turn-further t m in
       let rest = turns-stay p (one .1) in
       (omega arith, rest .1)
 
   -- one turn more, and all that are left
-  pub turns-more : {x y : State} {l : List Replied} (r : Turn) → Turns log x l y → Turned log y r → r .more ≡ true
+  pub turns-more : {x y : State} {l : List Replied} {r : Turn} → Turns log x l y → Turned log y r → r .more ≡ true
       → Turns log x (l ++ (told r ∷ [])) (r .state)
-  turns-more r none t m = one-more r t m none
-  turns-more r (one-more s u n p) t m = one-more s u n (turns-more r p t m)
+  turns-more {r = r} none t m = one-more r t m none
+  turns-more (one-more s u n p) t m = one-more s u n (turns-more p t m)
 
   pub turns-plays : {x y : State} {l m : List Replied} {last : Last} → Turns log x l y → Plays log y m last → Plays log x (l ++ m) last
   turns-plays none q = q

@@ -1,7 +1,7 @@
 -- All that is written, piece after piece, is the text of the rules' replay, whatever the promise of a piece allows. Assumes nothing.
 use mathlib.Core.Path.{_≡_, refl, sym, ap, subst, _∙_}
 use mathlib.Core.Bool.{true, false}
-use mathlib.Core.List.{List, [], _∷_, _++_, append-assoc}
+use mathlib.Core.List.{List, _++_, append-assoc}
 use Prim.Native.Nat.{ℕ, _+_, _*_, _≤_}
 use native.Mathlib.Omega.{arith}
 use lib.ListN.{length, take, length-append}
@@ -33,7 +33,7 @@ writes-plays log (goes-on {front = front} from before r after e p m w) =
     let u = writes-plays log w in (
       t .0 ++ u .0,
       u .1,
-      turns-plays log (t .1) (u .2),
+      turns-plays (t .1) (u .2),
       behind front (lines-text (t .0)) (lines-text (u .0)) (last-text (u .1))
           (t .2 ∙ ap (λ (f : List ℕ). f ++ lines-text (t .0)) e) (u .3) (lines-more (t .0) (u .0)),
     )
@@ -56,12 +56,13 @@ pub record Written (log out : List ℕ) (at : ℕ) (x : State) (total : ℕ) : T
   pub sound : Sound x
   pub within : x .place ≤ length log
   pub few : total ≤ buffer * x .place
-  pub rest : (text : List ℕ) → Writes log x (take at out) text → (all : List ℕ) × Writes log begin head-text all × (total + length text ≡ length all)
+  pub rest : (text : List ℕ) → Writes log x (take at out) text
+      → (all : List ℕ) × Writes log begin head-text all × (total + length text ≡ length all)
 
-pub written-none : (log before out : List ℕ) (at : ℕ) (x : State) → length before ≡ buffer → Puts before 0 head-text out at → x ≡ begin
+pub written-none : (log : List ℕ) {before out : List ℕ} {at : ℕ} {x : State} → length before ≡ buffer → Puts before 0 head-text out at → x ≡ begin
     → Written log out at x 0
-written-none log before out at x h p e =
-    let w = puts-whole before 0 head-text out at p (omega arith) in
+written-none log {out = out} {at = at} h p e =
+    let w = puts-whole p (omega arith) in
     subst (λ (y : State). Written log out at y 0) (sym e)
     (record {
       long = w .long ∙ h;
@@ -73,8 +74,8 @@ written-none log before out at x h p e =
     })
 
 -- a piece more, whose bytes are n
-module _ (log out : List ℕ) (at : ℕ) (x : State) (total : ℕ) (w : Written log out at x total) (r : Piece) (after : List ℕ)
-    (p : Pieces log x at out r after) (n : ℕ) (h : n ≡ length (take (r .length) after)) where
+module _ {log out : List ℕ} {at : ℕ} {x : State} {total : ℕ} (w : Written log out at x total) {r : Piece} {after : List ℕ}
+    (p : Pieces log x at out r after) {n : ℕ} (h : n ≡ length (take (r .length) after)) where
   pub written-low : n ≤ buffer
   written-low = omega (arith, p .fits, p .long, w .long, length-take-le (r .length) after (p .fits))
 

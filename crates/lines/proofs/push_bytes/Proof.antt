@@ -1,14 +1,13 @@
 -- `push_bytes` meets its contract: after i turns the first i bytes of the text are put, and the measure is what is left of the text. Assumes nothing.
 use borrow.Author.Needs.{needs}
-use mathlib.Core.Path.{refl, ap, _∙_}
-use mathlib.Core.List.{[], _∷_}
+use mathlib.Core.Path.{refl}
 use Prim.Native.Nat.{_≤_, _<_, _-_}
 use native.Mathlib.Numerals.{add-one}
 use native.Mathlib.Omega.{arith}
 use lib.Seq.{take-suc, take-all}
-use lib.ListN.{length, take, getD}
+use lib.ListN.{length, take}
 use Rattle.lines.specs.Text.{put, past, Puts}
-use Rattle.lines.proofs.Putting.{length-put, puts-more}
+use Rattle.lines.proofs.Putting.{puts-long, puts-more}
 use Rattle.lines.proofs.push_bytes.Statement.{statement}
 use Rattle.lines.proofs.push_bytes.Tie as tie
 
@@ -39,20 +38,14 @@ loop-again c =
     let entry = c .before .before .before .before .before .before .before .before .before in
     let turn = c .before .before .before .before .before .before .loop in
     let called = c .before .before .push in
-    let out = entry .args .out .now in
-    let at = entry .args .at in
     let text = entry .args .text .now in
     let i = turn .i in
     let within : i < length text = omega arith in
-    let more =
-    puts-more (take i text) (getD text i 0 ∷ []) out (turn .out) (called .last .0) at (turn .p) (called .result) (turn .inv .1) (called .ensures) in
+    let more = puts-more (turn .inv .1) (called .ensures) in
     (search needs, rw (add-one i, take-suc text i 0 within) more)
 
 same-length : tie.Need-same-length Inv-loop μ-loop
-same-length c =
-    let entry = c .before .before .before .before in
-    let end = c .before .loop in
-    ap length (end .inv .1 .bytes-are) ∙ length-put (take (end .i) (entry .args .text .now)) (entry .args .out .now) (entry .args .at)
+same-length c = puts-long (c .before .loop .inv .1)
 
 returns : tie.Need-returns Inv-loop μ-loop
 returns c =

@@ -1,8 +1,7 @@
 -- `fill` meets its contract: after some turns their lines stand in the buffer, and what is left of the log falls. Assumes nothing.
 use borrow.Author.Needs.{needs}
 use borrow.Author.Tests.{not-true, not-false}
-use mathlib.Core.Path.{_≡_, sym, _∙_}
-use Prim.Native.Nat.{_-_, _≤_, _<_}
+use Prim.Native.Nat.{_-_}
 use native.Mathlib.Omega.{arith}
 use lib.ListN.{length}
 use Rattle.replay.proofs.Turning.{turn-further}
@@ -32,10 +31,11 @@ push-last-requires c κs = search needs
 
 returns : tie.Need-returns Inv-loop μ-loop
 returns c =
-    let entry = c .before .before .before .before .before .before .before .before .before .before .before .before in
-    let turn = c .before .before .before .before .before .before .before .before .before .loop in
-    filled-ends (entry .args .log .now) (entry .args .state) (entry .args .from) (entry .args .out .now) (turn .out) (turn .here) (turn .at) (turn .inv)
-    (c .before .before .before .before .before .before .before .turn .result) (c .before .before .push-last .last .0) (c .before .before .push-last .result) (c .before .before .before .before .before .before .before .turn .ensures) (not-true _ (c .before .before .before .before .if1 .taken)) (c .before .before .before .before .before .before .before .before .loop-test .taken) (c .before .before .push-last .ensures)
+    let put = c .before .before in
+    let told = put .before .before in
+    let turned = told .before .before .before in
+    let test = turned .before in
+    filled-ends (test .before .loop .inv) (turned .turn .ensures) (not-true _ (told .if1 .taken)) (test .loop-test .taken) (put .push-last .ensures)
 
 same-length : tie.Need-same-length Inv-loop μ-loop
 same-length c = returns c .long
@@ -45,26 +45,24 @@ push-line-requires c κs = search needs
 
 loop-less : tie.Need-loop-less Inv-loop μ-loop
 loop-less c =
-    let entry = c .before .before .before .before .before .before .before .before .before .before .before .before in
-    let further = turn-further (entry .args .log .now) (c .before .before .before .before .before .before .before .before .before .loop .here) (c .before .before .before .before .before .before .before .turn .result) (c .before .before .before .before .before .before .before .turn .ensures) (not-false _ (c .before .before .before .before .if1 .left)) in
+    let told = c .before .before .before .before in
+    let turned = told .before .before .before in
+    let further = turn-further (turned .turn .ensures) (not-false _ (told .if1 .left)) in
     omega arith
 
 loop-again : tie.Need-loop-again Inv-loop μ-loop
 loop-again c =
-    let entry = c .before .before .before .before .before .before .before .before .before .before .before .before in
-    let turn = c .before .before .before .before .before .before .before .before .before .loop in
-    filled-more (entry .args .log .now) (entry .args .state) (entry .args .from) (entry .args .out .now) (turn .out) (turn .here) (turn .at) (turn .inv)
-    (c .before .before .before .before .before .before .before .turn .result) (c .before .before .push-line .last .0) (c .before .before .push-line .result) (c .before .before .before .before .before .before .before .turn .ensures) (not-false _ (c .before .before .before .before .if1 .left)) (c .before .before .before .before .before .before .before .before .loop-test .taken) (c .before .before .push-line .ensures)
+    let put = c .before .before in
+    let told = put .before .before in
+    let turned = told .before .before .before in
+    let test = turned .before in
+    filled-more (test .before .loop .inv) (turned .turn .ensures) (not-false _ (told .if1 .left)) (test .loop-test .taken) (put .push-line .ensures)
 
 same-length-2 : tie.Need-same-length-2 Inv-loop μ-loop
 same-length-2 c = c .before .loop .inv .long
 
 returns-2 : tie.Need-returns-2 Inv-loop μ-loop
-returns-2 c =
-    let entry = c .before .before .before .before in
-    let turn = c .before .loop in
-    filled-goes-on (entry .args .log .now) (entry .args .state) (entry .args .from) (entry .args .out .now) (turn .out) (turn .here) (turn .at) (turn .inv)
-    (c .loop-test .left)
+returns-2 c = filled-goes-on (c .before .loop .inv) (c .loop-test .left)
 
 pub fill-spec : {M : Type 1} → statement M
 fill-spec =

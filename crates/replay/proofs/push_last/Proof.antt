@@ -1,6 +1,5 @@
 -- `push_last` meets its contract: the words and the numbers stand one behind the other. Assumes nothing.
 use borrow.Author.Needs.{needs}
-use mathlib.Core.Path.{_≡_}
 use native.Mathlib.Omega.{arith}
 use Rattle.lines.proofs.Putting.{puts-more}
 use Rattle.replay.proofs.Telling.{end-is, log-is}
@@ -24,8 +23,11 @@ same-length c = search needs
 
 returns : tie.Need-returns
 returns c =
-    let a = c .before .before .before .before .before .before .before .before .before .before .before .before .before .before .before .before .before .args in
-    let text = puts-more _ _ _ _ _ _ _ _ (puts-more _ _ _ _ _ _ _ _ (c .before .before .before .before .before .before .before .before .before .before .push-bytes .ensures) (c .before .before .before .before .before .before .push-next .ensures)) (c .before .before .push .ensures) in
+    let third = c .before .before in
+    let second = third .before .before .before .before in
+    let first = second .before .before .before .before in
+    let a = first .before .before .before .before .before .before .before .args in
+    let text = puts-more (puts-more (first .push-bytes .ensures) (second .push-next .ensures)) (third .push .ensures) in
     rw (end-is (a .stop) (a .place) (a .count) (omega arith)) at text
 
 slice-aggregate-push-bytes-2 : tie.Need-slice-aggregate-push-bytes-2
@@ -57,11 +59,17 @@ same-length-2 c = search needs
 
 returns-2 : tie.Need-returns-2
 returns-2 c =
-    let a = c .before .before .before .before .before .before .before .before .before .before .before .before .before .before .before .before .before .before .before .before .before .before .before .before .before .before .before .before .before .args in
-    let front = puts-more _ _ _ _ _ _ _ _ (puts-more _ _ _ _ _ _ _ _ (c .before .before .before .before .before .before .before .before .before .before .before .before .before .before .before .before .before .before .before .before .push-bytes2 .ensures) (c .before .before .before .before .before .before .before .before .before .before .before .before .before .before .before .before .push-next2 .ensures)) (c .before .before .before .before .before .before .before .before .before .before .before .push-bytes3 .ensures) in
-    let number = rw (c .before .before .before .before .before .before .before .offset .ensures) at (c .before .before .before .before .before .before .push-next3 .ensures) in
-    let text = puts-more _ _ _ _ _ _ _ _ (puts-more _ _ _ _ _ _ _ _ front number) (c .before .before .push2 .ensures) in
-    rw (log-is (a .stop) (a .place) (a .count) (c .before .before .before .before .before .before .before .before .before .before .before .before .before .before .before .before .before .before .before .before .before .before .before .before .before .before .before .if1 .left)) at text
+    let fifth = c .before .before in
+    let fourth = fifth .before .before .before .before in
+    let third = fourth .before .before .before .before .before in
+    let second = third .before .before .before .before .before in
+    let first = second .before .before .before .before in
+    let branch = first .before .before .before .before .before .before .before in
+    let a = branch .before .before .args in
+    let number = puts-more (first .push-bytes2 .ensures) (second .push-next2 .ensures) in
+    let offset = rw (fourth .before .offset .ensures) at (fourth .push-next3 .ensures) in
+    let text = puts-more (puts-more (puts-more number (third .push-bytes3 .ensures)) offset) (fifth .push2 .ensures) in
+    rw (log-is (a .stop) (a .place) (a .count) (branch .if1 .left)) at text
 
 pub push-last-spec : {M : Type 1} → statement M
 push-last-spec =

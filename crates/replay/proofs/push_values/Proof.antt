@@ -1,12 +1,12 @@
 -- `push_values` meets its contract: after i turns the first i values are put, and the values left fall. Assumes nothing.
 use borrow.Author.Needs.{needs}
-use mathlib.Core.Path.{_≡_, refl, sym, ap, _∙_}
-use Prim.Native.Nat.{_-_, _≤_, _<_}
+use mathlib.Core.Path.{_≡_, refl, sym, _∙_}
+use Prim.Native.Nat.{_-_, _≤_}
 use native.Mathlib.Omega.{arith}
-use lib.ListN.{length, take}
+use lib.ListN.{take}
 use lib.Seq.{take-all}
 use Rattle.lines.specs.Text.{put, past, Puts}
-use Rattle.lines.proofs.Putting.{length-put, puts-more}
+use Rattle.lines.proofs.Putting.{puts-long, puts-more}
 use Rattle.replay.specs.Text.{spaced}
 use Rattle.replay.proofs.Telling.{spaced-next}
 use Rattle.replay.proofs.push_values.Statement.{statement}
@@ -23,10 +23,7 @@ unfolding spaced put past
 loop-holds c = (search needs, search needs, record { bytes-are = refl; index-is = refl })
 
 same-length : tie.Need-same-length Inv-loop μ-loop
-same-length c =
-    let entry = c .before .before .before .before .before in
-    let turn = c .before .before .loop in
-    ap length (turn .inv .2 .bytes-are) ∙ length-put (spaced (take (turn .i) (entry .args .s .values))) (entry .args .out .now) (entry .args .at)
+same-length c = puts-long (c .before .before .loop .inv .2)
 
 returns : tie.Need-returns Inv-loop μ-loop
 returns c =
@@ -57,21 +54,21 @@ loop-again c =
     let called = c .before .before .push-next in
     let values = entry .args .s .values in
     let next = spaced-next values (turn .i) (omega (arith, entry .pre)) in
-    let more = puts-more _ _ _ _ _ _ _ _ (turn .inv .2) (called .ensures) in
+    let more = puts-more (turn .inv .2) (called .ensures) in
     (search needs, search needs, rw next more)
 
 same-length-2 : tie.Need-same-length-2 Inv-loop μ-loop
-same-length-2 c =
-    let entry = c .before .before .before .before in
-    let turn = c .before .loop in
-    ap length (turn .inv .2 .bytes-are) ∙ length-put (spaced (take (turn .i) (entry .args .s .values))) (entry .args .out .now) (entry .args .at)
+same-length-2 c = puts-long (c .before .loop .inv .2)
 
 returns-2 : tie.Need-returns-2 Inv-loop μ-loop
 returns-2 c =
     let entry = c .before .before .before .before in
     let turn = c .before .loop in
     let values = entry .args .s .values in
-    let all : take (turn .i) values ≡ take (entry .args .s .many) values = take-all (turn .i) values (omega (arith, entry .pre)) ∙ sym (take-all (entry .args .s .many) values (omega (arith, entry .pre))) in
+    let many = entry .args .s .many in
+    let first = take-all (turn .i) values (omega (arith, entry .pre)) in
+    let second = take-all many values (omega (arith, entry .pre)) in
+    let all : take (turn .i) values ≡ take many values = first ∙ sym second in
     rw all at (turn .inv .2)
 
 pub push-values-spec : {M : Type 1} → statement M

@@ -1,10 +1,10 @@
 -- `write` meets its contract: what is written so far is the start of a run of pieces, and what is left of the log falls. Assumes nothing.
 use borrow.Author.Needs.{needs}
 use borrow.Author.Tests.{not-true, not-false}
-use mathlib.Core.Path.{_≡_, sym, _∙_}
+use mathlib.Core.Path.{sym}
 use Prim.Native.Nat.{ℕ, _-_}
 use native.Mathlib.Omega.{arith}
-use lib.ListN.{length, replicate, length-replicate}
+use lib.ListN.{length, length-replicate}
 use lib.Seq.{length-take-le}
 use Rattle.replay.proofs.Writing.{buffer, Written, written-none, written-low, written-more, written-ends}
 use Rattle.replay.proofs.write.Statement.{statement}
@@ -27,8 +27,9 @@ begin-requires c κs = search needs
 
 loop-holds : tie.Need-loop-holds Inv-loop μ-loop
 loop-holds c =
-    written-none (c .before .before .before .before .before .args .log .now) (replicate buffer 0) (c .before .before .head .last .0) (c .before .before .head .result) (c .begin .result) (length-replicate {A = ℕ} buffer 0)
-    (c .before .before .head .ensures) (c .begin .ensures)
+    let head = c .before .before .head in
+    let log = c .before .before .before .before .before .args .log .now in
+    written-none log (length-replicate {A = ℕ} buffer 0) (head .ensures) (c .begin .ensures)
 
 slice-aggregate-fill : tie.Need-slice-aggregate-fill Inv-loop μ-loop
 slice-aggregate-fill c = sym (c .before .loop .inv .long)
@@ -40,33 +41,39 @@ array-share-prefix-out : tie.Need-array-share-prefix-out Inv-loop μ-loop
 array-share-prefix-out c = c .before .before .fill .ensures .fits
 
 slice-aggregate-print : tie.Need-slice-aggregate-print Inv-loop μ-loop
-slice-aggregate-print c = sym (length-take-le (c .before .before .before .fill .result .length) (c .before .before .before .fill .last .1 .1 .0) (c .before .before .before .fill .ensures .fits))
+slice-aggregate-print c =
+    let made = c .before .before .before .fill in
+    sym (length-take-le (made .result .length) (made .last .1 .1 .0) (made .ensures .fits))
 
 print-requires : tie.Need-print-requires Inv-loop μ-loop
 print-requires c κs = search needs
 
 add-total : tie.Need-add-total Inv-loop μ-loop
 add-total c =
-    let inv = c .before .before .before .before .before .before .loop .inv in
-    let low =
-    written-low (c .before .before .before .before .before .before .before .before .before .before .before .before .args .log .now) (c .before .before .before .before .before .before .loop .out) (c .before .before .before .before .before .before .loop .at) (c .before .before .before .before .before .before .loop .state) (c .before .before .before .before .before .before .loop .total) inv (c .before .before .before .before .fill .result)
-    (c .before .before .before .before .fill .last .1 .1 .0) (c .before .before .before .before .fill .ensures) (c .print .result) (c .print .ensures) in
-    record { fits = omega (arith, inv .few, inv .within, c .before .before .before .before .before .before .before .before .before .before .before .before .pre) }
+    let made = c .before .before .before .before in
+    let turn = made .before .before in
+    let entry = turn .before .before .before .before .before .before in
+    let inv = turn .loop .inv in
+    let low = written-low inv (made .fill .ensures) (c .print .ensures) in
+    record { fits = omega (arith, inv .few, inv .within, entry .pre) }
 
 returns : tie.Need-returns Inv-loop μ-loop
 returns c =
-    written-ends (c .before .before .before .before .before .before .before .before .before .before .before .before .before .before .args .log .now) (c .before .before .before .before .before .before .before .before .loop .out) (c .before .before .before .before .before .before .before .before .loop .at) (c .before .before .before .before .before .before .before .before .loop .state) (c .before .before .before .before .before .before .before .before .loop .total) (c .before .before .before .before .before .before .before .before .loop .inv) (c .before .before .before .before .before .before .fill .result)
-    (c .before .before .before .before .before .before .fill .last .1 .1 .0) (c .before .before .before .before .before .before .fill .ensures) (c .before .before .print .result) (c .before .before .print .ensures) (not-true _ (c .if1 .taken))
+    let printed = c .before .before in
+    let made = printed .before .before .before .before in
+    written-ends (made .before .before .loop .inv) (made .fill .ensures) (printed .print .ensures) (not-true _ (c .if1 .taken))
 
 loop-less : tie.Need-loop-less Inv-loop μ-loop
 loop-less c =
-    let further = c .before .before .before .before .before .before .fill .ensures .further (not-false _ (c .if1 .left)) (c .before .before .before .before .before .before .before .before .loop .inv .low) in
+    let made = c .before .before .before .before .before .before in
+    let further = made .fill .ensures .further (not-false _ (c .if1 .left)) (made .before .before .loop .inv .low) in
     omega arith
 
 loop-again : tie.Need-loop-again Inv-loop μ-loop
 loop-again c =
-    written-more (c .before .before .before .before .before .before .before .before .before .before .before .before .before .before .args .log .now) (c .before .before .before .before .before .before .before .before .loop .out) (c .before .before .before .before .before .before .before .before .loop .at) (c .before .before .before .before .before .before .before .before .loop .state) (c .before .before .before .before .before .before .before .before .loop .total) (c .before .before .before .before .before .before .before .before .loop .inv) (c .before .before .before .before .before .before .fill .result)
-    (c .before .before .before .before .before .before .fill .last .1 .1 .0) (c .before .before .before .before .before .before .fill .ensures) (c .before .before .print .result) (c .before .before .print .ensures) (not-false _ (c .if1 .left))
+    let printed = c .before .before in
+    let made = printed .before .before .before .before in
+    written-more (made .before .before .loop .inv) (made .fill .ensures) (printed .print .ensures) (not-false _ (c .if1 .left))
 
 pub write-spec : {M : Type 1} → statement M
 write-spec =
