@@ -76,9 +76,6 @@ written-none log {out = out} {at = at} h p e =
 -- a piece more, whose bytes are n
 module _ {log out : List ℕ} {at : ℕ} {x : State} {total : ℕ} (w : Written log out at x total) {r : Piece} {after : List ℕ}
     (p : Pieces log x at out r after) {n : ℕ} (h : n ≡ length (take (r .length) after)) where
-  pub written-low : n ≤ buffer
-  written-low = omega (arith, p .fits, p .long, w .long, length-take-le (r .length) after (p .fits))
-
   pub written-more : r .more ≡ true → Written log after 0 (r .state) (total + n)
   written-more m =
       let further = p .further m (w .low) in
@@ -87,7 +84,7 @@ module _ {log out : List ℕ} {at : ℕ} {x : State} {total : ℕ} (w : Written 
         low = omega (arith, p .long, w .long);
         sound = p .sound;
         within = further .1;
-        few = omega (arith, written-low, w .few);
+        few = omega (arith, h, p .fits, p .long, w .long, w .few, length-take-le (r .length) after (p .fits));
         rest = λ text v.
             let all = w .rest (take (r .length) after ++ text) (goes-on at out r after refl p m v) in
             (all .0, all .1, omega (arith, h, all .2, length-append (take (r .length) after) text));

@@ -4,9 +4,9 @@ use borrow.Author.Tests.{not-true, not-false}
 use mathlib.Core.Path.{sym}
 use Prim.Native.Nat.{ℕ, _-_}
 use native.Mathlib.Omega.{arith}
-use lib.ListN.{length, length-replicate}
+use lib.ListN.{length, length-replicate, length-take}
 use lib.Seq.{length-take-le}
-use Rattle.replay.proofs.Writing.{buffer, Written, written-none, written-low, written-more, written-ends}
+use Rattle.replay.proofs.Writing.{buffer, Written, written-none, written-more, written-ends}
 use Rattle.replay.proofs.write.Statement.{statement}
 use Rattle.replay.proofs.write.Tie as tie
 
@@ -38,12 +38,10 @@ fill-requires : tie.Need-fill-requires Inv-loop μ-loop
 fill-requires c κs = (c .before .loop .inv .sound, omega (arith, c .before .loop .inv .low))
 
 array-share-prefix-out : tie.Need-array-share-prefix-out Inv-loop μ-loop
-array-share-prefix-out c = c .before .before .fill .ensures .fits
+array-share-prefix-out c = search needs
 
 slice-aggregate-print : tie.Need-slice-aggregate-print Inv-loop μ-loop
-slice-aggregate-print c =
-    let made = c .before .before .before .fill in
-    sym (length-take-le (made .result .length) (made .last .1 .1 .0) (made .ensures .fits))
+slice-aggregate-print c = simp length-take (omega (arith, c .before .before .before .fill .ensures .fits))
 
 print-requires : tie.Need-print-requires Inv-loop μ-loop
 print-requires c κs = search needs
@@ -54,8 +52,9 @@ add-total c =
     let turn = made .before .before in
     let entry = turn .before .before .before .before .before .before in
     let inv = turn .loop .inv in
-    let low = written-low inv (made .fill .ensures) (c .print .ensures) in
-    record { fits = omega (arith, inv .few, inv .within, entry .pre) }
+    let piece = made .fill .ensures in
+    let all = length-take-le (made .fill .result .length) (made .fill .last .1 .1 .0) (piece .fits) in
+    record { fits = omega (arith, inv .few, inv .within, inv .long, piece .fits, piece .long, c .print .ensures, entry .pre) }
 
 returns : tie.Need-returns Inv-loop μ-loop
 returns c =
