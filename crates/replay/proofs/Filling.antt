@@ -53,7 +53,7 @@ module _ {log : List ℕ} {x : State} {from : ℕ} {before out : List ℕ} {y : 
         text = w .bytes ∙ rw (f .text, text, append-assoc);
       }
 
-  -- where no other line surely fits
+  -- where another line might not fit, and one did before, there is one
   some-line : (l : List Replied) → take at out ≡ take from before ++ lines-text l → from + line-room ≤ length before → length out - at < line-room
       → 0 < length l
   unfolding lines-text

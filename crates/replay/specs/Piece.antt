@@ -35,8 +35,8 @@ pub record Pieces (log : List ℕ) (x : State) (from : ℕ) (before : List ℕ) 
   pub sound : Sound (r .state)
   pub further : r .more ≡ true → from + line-room ≤ length before → (x .place < r .state .place) × (r .state .place ≤ length log)
 
--- The loop of `write`: all that it writes from x on, where `front` stands in the buffer already. Each piece is any that its promise
--- allows, and what it takes of the buffer is written; the next begins at the buffer's start.
+-- This is the loop of `write`: all that it writes from x on, where `front` stands in the buffer already. Each piece is any that its
+-- promise allows, and what it takes of the buffer is written; the next begins at the buffer's start.
 pub data Writes (log : List ℕ) : State → List ℕ → List ℕ → Type 0 where
   ends : {x : State} {front : List ℕ} (from : ℕ) (before : List ℕ) (r : Piece) (after : List ℕ) → take from before ≡ front
       → Pieces log x from before r after → r .more ≡ false → Writes log x front (take (r .length) after)

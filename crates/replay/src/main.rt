@@ -1,4 +1,5 @@
 // Replays a log from standard input: a line for each record, then what ends the log. A read that fails counts as the end of the input.
+// The bytes of each write are proved, and all of them are the text of the rules' replay: `writes-replay` in proofs/Writing.antt.
 ghost use mathlib.Core.Path.{_≡_};
 ghost use Prim.Native.Nat.{_+_, _≤_};
 ghost use lib.ListN.{length, take};
@@ -31,7 +32,7 @@ struct Piece {
     more: bool,
 }
 
-// The values of a line.
+// The values of a line, each behind a space.
 fn push_values(out: &mut [u8], at: usize, s: Shown) -> usize
     requires { ⌜ length (s .values) ≡ most ⌝ }
     ensures { λ r. ⌜ Puts (now (out .entry)) at (spaced (take (s .many) (s .values))) (now (out .exit)) r ⌝ }
@@ -98,7 +99,7 @@ fn head(out: &mut [u8]) -> usize
     lines::push_bytes(out, 0, &text)
 }
 
-// Whole lines from an index on, turn after turn, for as long as another surely fits.
+// Fills the buffer from an index on: whole lines, turn after turn, for as long as another surely fits.
 fn fill(state: State, log: &[u8], out: &mut [u8], from: usize) -> Piece
     requires { ⌜ Sound state ⌝ }
     requires { ⌜ from ≤ length (now out) ⌝ }
@@ -128,7 +129,7 @@ fn fill(state: State, log: &[u8], out: &mut [u8], from: usize) -> Piece
     }
 }
 
-// Writes bytes. How many they are.
+// Writes bytes, and answers how many they are.
 fn print(bytes: &[u8]) -> usize
     ensures { λ r. ⌜ r ≡ length (now (bytes .entry)) ⌝ }
 {
@@ -136,7 +137,7 @@ fn print(bytes: &[u8]) -> usize
     bytes.len()
 }
 
-// The head, then piece after piece: each is written as it is made. The length of it all.
+// Writes the head, then piece after piece, each as it is made, until the last line. Answers how many bytes it wrote.
 fn write(log: &[u8]) -> usize
     requires { ⌜ length (now log) ≤ longest-log + 1 ⌝ }
     ensures { λ r. ⌜ r ≡ length (text-of (replay-of (now (log .entry)))) ⌝ }
