@@ -1,4 +1,4 @@
--- 01, The event log: what the program makes of a log, in numbers. Text is left to the program.
+-- 01, The event log: what the program makes of a log, in numbers. Its text is that of `crates/text`.
 use mathlib.Core.Bool.{cond}
 use mathlib.Core.List.{List, [], _∷_}
 use Prim.Native.Nat.{ℕ, zero, suc}

@@ -6,7 +6,7 @@ use Prim.Native.Nat.{ℕ, _-_}
 use native.Mathlib.Omega.{arith}
 use lib.ListN.{length, length-replicate, length-take}
 use lib.Seq.{length-take-le}
-use Rattle.replay.proofs.Writing.{buffer, Written, written-none, written-more, written-ends}
+use Rattle.replay.proofs.Written.{buffer, Written, written-none, written-more, written-ends}
 use Rattle.replay.proofs.write.Statement.{statement}
 use Rattle.replay.proofs.write.Tie as tie
 
@@ -35,7 +35,7 @@ slice-aggregate-fill : tie.Need-slice-aggregate-fill Inv-loop μ-loop
 slice-aggregate-fill c = sym (c .before .loop .inv .long)
 
 fill-requires : tie.Need-fill-requires Inv-loop μ-loop
-fill-requires c κs = (c .before .loop .inv .sound, omega (arith, c .before .loop .inv .low))
+fill-requires c κs = c .before .loop .inv .sound
 
 array-share-prefix-out : tie.Need-array-share-prefix-out Inv-loop μ-loop
 array-share-prefix-out c = search needs

@@ -1,48 +1,21 @@
--- All that is written, piece after piece, is the text of the rules' replay, whatever the promise of a piece allows. Assumes nothing.
+-- How many bytes are written, piece after piece: with those still to come, as many as the whole text has. Assumes nothing.
 use mathlib.Core.Path.{_≡_, refl, sym, ap, subst, _∙_}
 use mathlib.Core.Bool.{true, false}
-use mathlib.Core.List.{List, _++_, append-assoc}
+use mathlib.Core.List.{List, _++_}
 use Prim.Native.Nat.{ℕ, _+_, _*_, _≤_}
 use native.Mathlib.Omega.{arith}
 use lib.ListN.{length, take, length-append}
 use lib.Seq.{length-take-le}
-use Rattle.rules.specs.Replay.{Replied, Last, replay}
+use Rattle.rules.specs.Replay.{replay}
 use Rattle.player.specs.declared.State.{State}
-use Rattle.player.specs.Play.{begin, Sound, Plays}
+use Rattle.player.specs.Play.{begin, Sound}
 use Rattle.player.proofs.Turning.{begin-sound}
-use Rattle.player.proofs.Playing.{plays-replay}
 use Rattle.lines.specs.Text.{Puts}
 use Rattle.lines.proofs.Room.{puts-whole}
-use Rattle.replay.specs.declared.Piece.{Piece}
-use Rattle.replay.specs.Text.{lines-text, last-text, head-text, text-of}
-use Rattle.replay.specs.Piece.{line-room, Pieces, Writes, ends, goes-on}
-use Rattle.replay.proofs.Turning.{lines-more, turns-plays}
-
--- a text behind a text
-behind : (front x y z : List ℕ) {a b xy : List ℕ} → a ≡ front ++ x → b ≡ y ++ z → xy ≡ x ++ y → a ++ b ≡ front ++ (xy ++ z)
-behind front x y z p q r = rw (p, q, r) (simp append-assoc)
-
--- the lines and the last line of all turns that are left
-writes-plays : (log : List ℕ) {x : State} {front text : List ℕ} → Writes log x front text
-    → (l : List Replied) × (last : Last) × Plays log x l last × (text ≡ front ++ (lines-text l ++ last-text last))
-writes-plays log (ends from before r after e p m) =
-    let t = p .text .ends m in
-    (t .0, t .1, t .2, t .3 ∙ ap (λ (u : List ℕ). u ++ (lines-text (t .0) ++ last-text (t .1))) e)
-writes-plays log (goes-on {front = front} from before r after e p m w) =
-    let t = p .text .goes-on m in
-    let u = writes-plays log w in (
-      t .0 ++ u .0,
-      u .1,
-      turns-plays (t .1) (u .2),
-      behind front (lines-text (t .0)) (lines-text (u .0)) (last-text (u .1))
-          (t .2 ∙ ap (λ (f : List ℕ). f ++ lines-text (t .0)) e) (u .3) (lines-more (t .0) (u .0)),
-    )
-
-pub writes-replay : (log text : List ℕ) → Writes log begin head-text text → text ≡ text-of (replay log)
-unfolding text-of
-writes-replay log text w =
-    let p = writes-plays log w in
-    p .3 ∙ ap text-of (plays-replay log (p .0) (p .1) (p .2))
+use Rattle.text.specs.declared.Piece.{Piece}
+use Rattle.text.specs.Text.{head-text, text-of}
+use Rattle.text.specs.Piece.{line-room, Pieces, Writes, ends, goes-on}
+use Rattle.text.proofs.Writing.{writes-replay}
 
 -- the room for the text between two writes
 abbrev pub buffer : ℕ

@@ -1,8 +1,8 @@
 -- `offset` meets its contract: each branch knows whether the number is 13. Assumes nothing.
 use borrow.Author.Tests.{eq-eqb, ne-eqb}
 use native.Mathlib.Omega.{arith}
-use Rattle.replay.proofs.offset.Statement.{statement}
-use Rattle.replay.proofs.offset.Tie as tie
+use Rattle.text.proofs.offset.Statement.{statement}
+use Rattle.text.proofs.offset.Tie as tie
 
 returns : tie.Need-returns
 returns c = rw (eq-eqb (c .before .args .stop) 13 (omega arith))

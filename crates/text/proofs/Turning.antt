@@ -13,8 +13,8 @@ use Rattle.rules.proofs.RoundTrip.{read-kind}
 use Rattle.player.specs.declared.State.{State}
 use Rattle.player.specs.declared.Turn.{Turn}
 use Rattle.player.specs.Play.{By, Turned, Plays, goes-on}
-use Rattle.replay.specs.Text.{lines-text}
-use Rattle.replay.specs.Piece.{Turns, none, one-more}
+use Rattle.text.specs.Text.{lines-text}
+use Rattle.text.specs.Piece.{Turns, none, one-more}
 
 -- a turn's line
 abbrev pub told : Turn → Replied

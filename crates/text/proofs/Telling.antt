@@ -13,8 +13,8 @@ use Rattle.rules.specs.declared.Answer.the-variants as answer
 use Rattle.paper.specs.Shown.{most}
 use Rattle.lines.specs.Text.{decimal}
 use Rattle.lines.proofs.Room.{decimal-short}
-use Rattle.replay.specs.Text.{spaced, line-text, last-text, offset-of}
-use Rattle.replay.specs.Piece.{line-room}
+use Rattle.text.specs.Text.{spaced, line-text, last-text, offset-of}
+use Rattle.text.specs.Piece.{line-room}
 
 -- one number more
 pub spaced-more : (l m : List ℕ) → spaced (l ++ m) ≡ spaced l ++ spaced m

@@ -2,9 +2,9 @@
 use borrow.Author.Needs.{needs}
 use native.Mathlib.Omega.{arith}
 use Rattle.lines.proofs.Putting.{puts-more}
-use Rattle.replay.proofs.Telling.{end-is, log-is}
-use Rattle.replay.proofs.push_last.Statement.{statement}
-use Rattle.replay.proofs.push_last.Tie as tie
+use Rattle.text.proofs.Telling.{end-is, log-is}
+use Rattle.text.proofs.push_last.Statement.{statement}
+use Rattle.text.proofs.push_last.Tie as tie
 
 slice-aggregate-push-bytes : tie.Need-slice-aggregate-push-bytes
 slice-aggregate-push-bytes c = search needs

@@ -1,21 +1,23 @@
 -- What stands in the buffer after some turns: each line behind the one before it, whole, since there was room for it. Assumes nothing.
 use mathlib.Core.Path.{_≡_, refl, sym, ap, _∙_}
-use mathlib.Core.Bool.{true, false, false≢true}
+use mathlib.Core.Bool.{Bool, true, false, cond, false≢true}
 use mathlib.Core.List.{List, [], _∷_, _++_, append-assoc, append-nil}
 use Prim.Native.Nat.{ℕ, _+_, _-_, _≤_, _<_}
 use native.Mathlib.Omega.{arith}
+use lib.Dec.{ltb}
 use lib.ListN.{length, take}
-use lib.Seq.{length-take-le}
+use lib.Seq.{length-take-le, take-all}
+use borrow.Author.Tests.{ltb-true, ltb-false}
 use Rattle.rules.specs.Replay.{Replied, line, stop}
 use Rattle.player.specs.declared.State.{State}
 use Rattle.player.specs.declared.Turn.{Turn}
 use Rattle.player.specs.Play.{Sound, Turned, stops}
 use Rattle.lines.specs.Text.{Puts}
 use Rattle.lines.proofs.Room.{puts-whole}
-use Rattle.replay.specs.Text.{line-text, lines-text, last-text}
-use Rattle.replay.specs.Piece.{line-room, Turns, none, Pieces}
-use Rattle.replay.proofs.Telling.{line-short, last-short}
-use Rattle.replay.proofs.Turning.{told, lines-more, turns-further, turns-more, turns-plays}
+use Rattle.text.specs.Text.{line-text, lines-text, last-text}
+use Rattle.text.specs.Piece.{line-room, in-buffer, Turns, none, Pieces}
+use Rattle.text.proofs.Telling.{line-short, last-short}
+use Rattle.text.proofs.Turning.{told, lines-more, turns-further, turns-more, turns-plays}
 
 -- the text of some turns stands behind the first bytes
 pub record Filled (log : List ℕ) (x : State) (from : ℕ) (before out : List ℕ) (y : State) (at : ℕ) : Type 0 where
@@ -26,11 +28,34 @@ pub record Filled (log : List ℕ) (x : State) (from : ℕ) (before out : List �
   pub turns : Turns log x lines y
   pub text : take at out ≡ take from before ++ lines-text lines
 
-pub filled-none : (log : List ℕ) (x : State) (from : ℕ) (before : List ℕ) → Sound x → from ≤ length before
-    → Filled log x from before before x from
+pub filled-none : (log : List ℕ) (x : State) (from : ℕ) (before : List ℕ) (at : ℕ) → Sound x → at ≡ in-buffer from (length before)
+    → Filled log x from before before x at
 unfolding lines-text
-filled-none log x from before s h =
-    record { long = refl; within = h; sound = s; lines = []; turns = none; text = sym (append-nil (take from before)) }
+filled-none log x from before at s e = go (ltb (length before) from) refl
+  where
+    go : (b : Bool) → ltb (length before) from ≡ b → Filled log x from before before x at
+    go true p =
+        let is : at ≡ length before = e ∙ ap (λ (b : Bool). cond b (length before) from) p in
+        let past = ltb-true (length before) from p in
+        record {
+          long = refl;
+          within = omega arith;
+          sound = s;
+          lines = [];
+          turns = none;
+          text = take-all at before (omega arith) ∙ sym (take-all from before (omega arith)) ∙ sym (append-nil (take from before));
+        }
+    go false p =
+        let is : at ≡ from = e ∙ ap (λ (b : Bool). cond b (length before) from) p in
+        let low = ltb-false (length before) from p in
+        record {
+          long = refl;
+          within = omega arith;
+          sound = s;
+          lines = [];
+          turns = none;
+          text = ap (λ (n : ℕ). take n before) is ∙ sym (append-nil (take from before));
+        }
 
 module _ {log : List ℕ} {x : State} {from : ℕ} {before out : List ℕ} {y : State} {at : ℕ} (f : Filled log x from before out y at) where
   lines-one : (r : Turn) → lines-text (told r ∷ []) ≡ line-text (line (told r))

@@ -1,19 +1,24 @@
 -- What a piece of the text promises, and what the pieces that `write` makes amount to.
 use mathlib.Core.Path.{_≡_}
-use mathlib.Core.Bool.{true, false}
+use mathlib.Core.Bool.{true, false, cond}
 use mathlib.Core.List.{List, [], _∷_, _++_}
 use Prim.Native.Nat.{ℕ, _+_, _≤_, _<_}
+use lib.Dec.{ltb}
 use lib.ListN.{length, take}
 use Rattle.rules.specs.Replay.{Replied, Last}
 use Rattle.player.specs.declared.State.{State}
 use Rattle.player.specs.declared.Turn.{Turn}
 use Rattle.player.specs.Play.{Sound, Turned, Plays}
-use Rattle.replay.specs.declared.Piece.{Piece}
-use Rattle.replay.specs.Text.{lines-text, last-text}
+use Rattle.text.specs.declared.Piece.{Piece}
+use Rattle.text.specs.Text.{lines-text, last-text}
 
 -- the most bytes of a line: 10 numbers of at most 20 digits, with the space or the end of the line behind each
 abbrev pub line-room : ℕ
 line-room = 210
+
+-- an index of n bytes: past their end, the end
+abbrev pub in-buffer : ℕ → ℕ → ℕ
+in-buffer from n = cond (ltb n from) n from
 
 -- turns that answer these lines lead from one state to the other
 pub data Turns (log : List ℕ) : State → List Replied → State → Type 0 where

@@ -4,10 +4,10 @@ use borrow.Author.Tests.{not-true, not-false}
 use Prim.Native.Nat.{_-_}
 use native.Mathlib.Omega.{arith}
 use lib.ListN.{length}
-use Rattle.replay.proofs.Turning.{turn-further}
-use Rattle.replay.proofs.Filling.{Filled, filled-none, filled-more, filled-goes-on, filled-ends}
-use Rattle.replay.proofs.fill.Statement.{statement}
-use Rattle.replay.proofs.fill.Tie as tie
+use Rattle.text.proofs.Turning.{turn-further}
+use Rattle.text.proofs.Filling.{Filled, filled-none, filled-more, filled-goes-on, filled-ends}
+use Rattle.text.proofs.fill.Statement.{statement}
+use Rattle.text.proofs.fill.Tie as tie
 
 abbrev Inv-loop : tie.InvT-loop
 Inv-loop log out₀ from here₀ at₀ out here at = Filled log here₀ from out₀ out here at
@@ -15,10 +15,13 @@ Inv-loop log out₀ from here₀ at₀ out here at = Filled log here₀ from out
 abbrev μ-loop : tie.MeasureT-loop
 μ-loop log out₀ from here₀ at₀ out here at = length log - here .place
 
+in-buffer-requires : tie.Need-in-buffer-requires Inv-loop μ-loop
+in-buffer-requires c κs = search needs
+
 loop-holds : tie.Need-loop-holds Inv-loop μ-loop
 loop-holds c =
-    let entry = c .before .before in
-    filled-none (entry .args .log .now) (entry .args .state) (entry .args .from) (entry .args .out .now) (entry .pre .0) (entry .pre .1)
+    let entry = c .before .before .before in
+    filled-none (entry .args .log .now) (entry .args .state) (entry .args .from) (entry .args .out .now) _ (entry .pre) (c .in-buffer .ensures)
 
 sub-loop : tie.Need-sub-loop Inv-loop μ-loop
 sub-loop c = c .loop .inv .within
@@ -70,6 +73,7 @@ fill-spec =
     (tie.spec
     Inv-loop
     μ-loop
+    in-buffer-requires
     loop-holds
     sub-loop
     turn-requires

@@ -7,10 +7,10 @@ use lib.ListN.{take}
 use lib.Seq.{take-all}
 use Rattle.lines.specs.Text.{put, past, Puts}
 use Rattle.lines.proofs.Putting.{puts-long, puts-more}
-use Rattle.replay.specs.Text.{spaced}
-use Rattle.replay.proofs.Telling.{spaced-next}
-use Rattle.replay.proofs.push_values.Statement.{statement}
-use Rattle.replay.proofs.push_values.Tie as tie
+use Rattle.text.specs.Text.{spaced}
+use Rattle.text.proofs.Telling.{spaced-next}
+use Rattle.text.proofs.push_values.Statement.{statement}
+use Rattle.text.proofs.push_values.Tie as tie
 
 abbrev Inv-loop : tie.InvT-loop
 Inv-loop out₀ at values many p₀ i₀ out p i = (i ≤ 8) × (i ≤ many) × Puts out₀ at (spaced (take i values)) out p

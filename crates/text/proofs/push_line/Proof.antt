@@ -6,9 +6,9 @@ use Rattle.rules.specs.Paper.{paper}
 use Rattle.rules.specs.Replay.{line}
 use Rattle.paper.specs.declared.Shown.{Shown}
 use Rattle.lines.proofs.Putting.{puts-more}
-use Rattle.replay.proofs.Telling.{line-is, values-few, values-are, values-fill}
-use Rattle.replay.proofs.push_line.Statement.{statement}
-use Rattle.replay.proofs.push_line.Tie as tie
+use Rattle.text.proofs.Telling.{line-is, values-few, values-are, values-fill}
+use Rattle.text.proofs.push_line.Statement.{statement}
+use Rattle.text.proofs.push_line.Tie as tie
 
 line-of-requires : tie.Need-line-of-requires
 line-of-requires c κs = search needs
