@@ -1,12 +1,12 @@
 -- What stands in the buffer after some turns: each line behind the one before it, whole, since there was room for it. Assumes nothing.
-use mathlib.Core.Path.{_≡_, refl, sym, ap, _∙_}
+use mathlib.Core.Path.{_≡_, refl, sym, ap, subst, _∙_}
 use mathlib.Core.Bool.{Bool, true, false, cond, false≢true}
 use mathlib.Core.List.{List, [], _∷_, _++_, append-assoc, append-nil}
 use Prim.Native.Nat.{ℕ, _+_, _-_, _≤_, _<_}
 use native.Mathlib.Omega.{arith}
 use lib.Dec.{ltb}
-use lib.ListN.{length, take}
-use lib.Seq.{length-take-le, take-all}
+use lib.ListN.{length, take, drop}
+use lib.Seq.{length-take-le, take-all, drop-drop}
 use borrow.Author.Tests.{ltb-true, ltb-false}
 use Rattle.rules.specs.Replay.{Replied, line, stop}
 use Rattle.player.specs.declared.State.{State}
@@ -27,6 +27,7 @@ pub record Filled (log : List ℕ) (x : State) (from : ℕ) (before out : List �
   pub lines : List Replied
   pub turns : Turns log x lines y
   pub text : take at out ≡ take from before ++ lines-text lines
+  pub later : drop at out ≡ drop at before
 
 pub filled-none : (log : List ℕ) (x : State) (from : ℕ) (before : List ℕ) (at : ℕ) → Sound x → at ≡ in-buffer from (length before)
     → Filled log x from before before x at
@@ -43,6 +44,7 @@ filled-none log x from before at s e = go (ltb (length before) from) refl
           sound = s;
           lines = [];
           turns = none;
+          later = refl;
           text = take-all at before (omega arith) ∙ sym (take-all from before (omega arith)) ∙ sym (append-nil (take from before));
         }
     go false p =
@@ -54,6 +56,7 @@ filled-none log x from before at s e = go (ltb (length before) from) refl
           sound = s;
           lines = [];
           turns = none;
+          later = refl;
           text = ap (λ (n : ℕ). take n before) is ∙ sym (append-nil (take from before));
         }
 
@@ -62,10 +65,19 @@ module _ {log : List ℕ} {x : State} {from : ℕ} {before out : List ℕ} {y : 
   unfolding lines-text
   lines-one r = append-nil (line-text (line (told r)))
 
+  -- what is put from there on leaves the bytes behind it as they were
+  still-later : (after : List ℕ) (p : ℕ) → at ≤ p → drop p after ≡ drop p out → drop p after ≡ drop p before
+  still-later after p h e =
+      let sum : at + (p - at) ≡ p = omega arith in
+      let behind : drop p out ≡ drop p before =
+      subst (λ (n : ℕ). drop n out ≡ drop n before) sum
+      (sym (drop-drop (p - at) at out) ∙ ap (λ (l : List ℕ). drop (p - at) l) (f .later) ∙ drop-drop (p - at) at before) in
+      e ∙ behind
+
   -- one line more
   pub filled-more : {r : Turn} {after : List ℕ} {p : ℕ} → Turned log y r → r .more ≡ true → line-room ≤ length out - at
       → Puts out at (line-text (line (told r))) after p → Filled log x from before after (r .state) p
-  filled-more {r} t m h q =
+  filled-more {r} {after} {p} t m h q =
       let short = line-short (told r) in
       let w = puts-whole q (omega (arith, f .within)) in
       let text = lines-more (f .lines) (told r ∷ []) ∙ ap (λ (u : List ℕ). lines-text (f .lines) ++ u) (lines-one r) in
@@ -76,6 +88,7 @@ module _ {log : List ℕ} {x : State} {from : ℕ} {before out : List ℕ} {y : 
         lines = f .lines ++ (told r ∷ []);
         turns = turns-more (f .turns) t m;
         text = w .bytes ∙ rw (f .text, text, append-assoc);
+        later = still-later after p (omega (arith, w .index)) (w .later);
       }
 
   -- where another line might not fit, and one did before, there is one
@@ -94,6 +107,8 @@ module _ {log : List ℕ} {x : State} {from : ℕ} {before out : List ℕ} {y : 
     long = f .long;
     fits = f .within;
     text = record { goes-on = λ _. (f .lines, f .turns, f .text); ends = λ e. absurd (false≢true (sym e)) };
+    later = f .later;
+    full = λ _. omega (arith, f .long);
     sound = f .sound;
     further = λ _ k. turns-further (f .turns) (some-line (f .lines) (f .text) k h);
   }
@@ -102,7 +117,7 @@ module _ {log : List ℕ} {x : State} {from : ℕ} {before out : List ℕ} {y : 
   pub filled-ends : {r : Turn} {after : List ℕ} {p : ℕ} → Turned log y r → r .more ≡ false → line-room ≤ length out - at
       → Puts out at (last-text (stop (r .stop) (y .place) (y .count))) after p
       → Pieces log x from before (record { length = p; state = r .state; more = false }) after
-  filled-ends {r} t m h q =
+  filled-ends {r} {after} {p} t m h q =
       let last = stop (r .stop) (y .place) (y .count) in
       let short = last-short last in
       let w = puts-whole q (omega (arith, f .within)) in
@@ -114,6 +129,8 @@ module _ {log : List ℕ} {x : State} {from : ℕ} {before out : List ℕ} {y : 
           goes-on = λ e. absurd (false≢true e);
           ends = λ _. (f .lines ++ [], last, plays, w .bytes ∙ rw (f .text, append-nil (f .lines), append-assoc));
         };
+        later = still-later after p (omega (arith, w .index)) (w .later);
+        full = λ e. absurd (false≢true e);
         sound = t .sound;
         further = λ e. absurd (false≢true e);
       }

@@ -2,9 +2,9 @@
 use mathlib.Core.Path.{_≡_}
 use mathlib.Core.Bool.{true, false, cond}
 use mathlib.Core.List.{List, [], _∷_, _++_}
-use Prim.Native.Nat.{ℕ, _+_, _≤_, _<_}
+use Prim.Native.Nat.{ℕ, _+_, _-_, _≤_, _<_}
 use lib.Dec.{ltb}
-use lib.ListN.{length, take}
+use lib.ListN.{length, take, drop}
 use Rattle.rules.specs.Replay.{Replied, Last}
 use Rattle.player.specs.declared.State.{State}
 use Rattle.player.specs.declared.Turn.{Turn}
@@ -32,11 +32,14 @@ pub record Tells (log : List ℕ) (x : State) (front : List ℕ) (r : Piece) (te
   pub ends : r .more ≡ false → (l : List Replied) × (last : Last) × Plays log x l last × (text ≡ front ++ (lines-text l ++ last-text last))
 
 -- what `fill` promises: the buffer keeps its length; its first bytes, as many as the piece says, are those before the index and the text
--- of the turns from x on. Where a whole line fits and more follows, the place in the log goes on.
+-- of the turns from x on, and the bytes behind them stay. More follows only where another line might not fit, and where one did at first,
+-- the place in the log goes on.
 pub record Pieces (log : List ℕ) (x : State) (from : ℕ) (before : List ℕ) (r : Piece) (after : List ℕ) : Type 0 where
   pub long : length after ≡ length before
   pub fits : r .length ≤ length after
   pub text : Tells log x (take from before) r (take (r .length) after)
+  pub later : drop (r .length) after ≡ drop (r .length) before
+  pub full : r .more ≡ true → length before - r .length < line-room
   pub sound : Sound (r .state)
   pub further : r .more ≡ true → from + line-room ≤ length before → (x .place < r .state .place) × (r .state .place ≤ length log)
 
