@@ -3,10 +3,11 @@
 # usage: mrc replay [LOG]     the program's lines for a log
 #        mrc show [LOG]       a log in words, a record a line
 #        mrc make [WORDS]     a log, from such words, to standard output
+#        mrc command [NAME]   the command line of a program, replay or calls, a word a line
 # Without a file, standard input is read.
 set -u
 here=$(cd "$(dirname "$0")" && pwd) || exit 2
-usage() { sed -n '2,7s/^# \{0,1\}//p' "$0" >&2; exit 2; }
+usage() { sed -n '2,8s/^# \{0,1\}//p' "$0" >&2; exit 2; }
 [ $# -ge 1 ] && [ $# -le 2 ] || usage
 
 # the command line of a program of target/bin: it is built for x86-64, and the toolchain's emulator runs it elsewhere, as a plain
@@ -20,7 +21,7 @@ program() {
 }
 
 built() {
-    [ -x "$here/target/bin/replay" ] || (cd "$here" && rt check replay >&2) || exit 1
+    [ -x "$here/target/bin/$1" ] || (cd "$here" && rt check "$1" >&2) || exit 1
 }
 
 reference() {
@@ -28,10 +29,12 @@ reference() {
     "$here/reference/target/release/reference" "$1"
 }
 
+case $1 in
+    command) name=${2:-replay}; built "$name"; program "$name"; exit ;;
+esac
 [ $# -eq 1 ] || exec <"$2" || exit 2
 case $1 in
-    command) built; program replay ;;
-    replay) built; exec $(program replay) ;;
+    replay) built replay; exec $(program replay) ;;
     show | make) reference "$1" ;;
     *) usage ;;
 esac

@@ -48,7 +48,7 @@ impl Script {
     fn event(&mut self, kind: usize, slot: u8, fields: &[u64]) -> Option<Vec<u64>> {
         let record = Record::new(kind, slot, fields);
         self.bytes.extend(record.bytes());
-        self.card.event(&record).ok()
+        self.card.event(&record).ok().map(|done| [done.values, done.unprinted].concat())
     }
 
     fn full(&self) -> bool {
@@ -123,7 +123,7 @@ pub fn traffic(chance: &mut Chance, room: u64, first: u32, events: usize) -> Vec
                 if let Some(values) = script.event(4, far, &[psn, size, flags, entropy]) {
                     replies.push(match values[0] {
                         0 | 1 => (5, values[1..4].to_vec()),
-                        answer => (6, vec![psn, [3, 4, 1, 2][answer as usize - 2]]),
+                        _ => (6, vec![psn, values[4]]),
                     });
                 }
             }
@@ -189,6 +189,25 @@ pub fn edges(chance: &mut Chance, events: usize) -> Vec<u8> {
     script.bytes
 }
 
+/// Arrivals whose lines are long: E waits while the last packet of its window is accepted, so that bit 63 of each block is set.
+pub fn long(chance: &mut Chance) -> Vec<u8> {
+    let mut script = Script::new(LONGEST);
+    let first = TURN - 1 - chance.below(6_000_000) as u32;
+    script.event(1, 0, &[64, 0, 64, first.into()]);
+    let mut expected = first;
+    while !script.full() {
+        let (psn, flags) = match chance.below(60) {
+            0 => (expected, 0),
+            _ => (on(expected, 63 - chance.pick(&[0, 0, 0, 1, 2, 40])), chance.below(4)),
+        };
+        let entropy = (1 << 32) - 1 - chance.below(1 << 31);
+        if let Some(values) = script.event(4, 0, &[psn.into(), 48 + chance.below(9169), flags, entropy]) {
+            expected = on(values[1] as u32, 1);
+        }
+    }
+    script.bytes
+}
+
 const HALF_EDGE: u32 = TURN / 2;
 
 /// One record of each kind.
@@ -235,6 +254,7 @@ pub fn log(seed: u64, i: usize) -> Vec<u8> {
         4 => random(&mut chance, LONGEST + 1),
         5 => random(&mut chance, 1),
         6 => random(&mut chance, 2),
+        n if n % 64 == 7 => long(&mut chance),
         n => match n % 8 {
             0 => {
                 let length = chance.below(64) as usize;

@@ -1,10 +1,12 @@
 //! The event log, from document 01: its bytes, and the same in words.
 
-use crate::side::{room_allowed, Outcome, Receiver, Sender};
+use crate::side::{done, room_allowed, Outcome, Receiver, Sender, TURN};
 use std::fmt::Write;
 
 pub const LONGEST: usize = 32_768;
 pub const SLOTS: usize = 16;
+/// How many bytes a packet number takes. No other field takes as many.
+pub const PSN_WIDTH: usize = 3;
 
 /// A kind's name, and the name and width in bytes of each of its fields.
 pub struct Kind {
@@ -107,38 +109,52 @@ pub fn read(log: &[u8], at: usize) -> Result<Option<(Record, usize)>, u8> {
     }
 }
 
+/// A slot of a table: nothing, or both sides of a connection.
+pub type Slot = Option<(Sender, Receiver)>;
+
+/// An event of a kind on a slot of the slots lent.
+pub fn event(lent: &mut [Slot], slot: usize, kind: usize, f: &[u64]) -> Outcome {
+    let slot = lent.iter_mut().take(SLOTS).nth(slot).ok_or(1)?;
+    let high = KINDS[kind - 1].fields.iter().zip(f).any(|(&(_, width), &v)| width == PSN_WIDTH && v >= TURN.into());
+    if kind == 1 {
+        if slot.is_some() {
+            return Err(3);
+        }
+        if !room_allowed(f[0] as u16) || !room_allowed(f[2] as u16) {
+            return Err(4);
+        }
+        if high {
+            return Err(5);
+        }
+        *slot = Some((Sender::new(f[0] as u16, f[1] as u32), Receiver::new(f[2] as u16, f[3] as u32)));
+        return done(vec![]);
+    }
+    let (sender, receiver) = slot.as_mut().ok_or(2)?;
+    if high {
+        return Err(5);
+    }
+    match kind {
+        2 => {
+            *slot = None;
+            done(vec![])
+        }
+        3 => sender.send(f[0] as u16),
+        4 => receiver.arrive(f[0] as u32, f[1] as u16, f[2] as u8, f[3] as u32),
+        5 => sender.sack(f[0] as u32, f[1] as u32, f[2]),
+        6 => sender.nack(f[0] as u32, f[1] as u8),
+        7 => sender.timer(f[0] as u32),
+        _ => sender.resend(),
+    }
+}
+
 #[derive(Clone, Default)]
 pub struct Card {
-    slots: [Option<(Sender, Receiver)>; SLOTS],
+    slots: [Slot; SLOTS],
 }
 
 impl Card {
     pub fn event(&mut self, record: &Record) -> Outcome {
-        let slot = self.slots.get_mut(record.slot as usize).ok_or(1)?;
-        let f = &record.fields;
-        if record.kind == 1 {
-            if slot.is_some() {
-                return Err(3);
-            }
-            if !room_allowed(f[0] as u16) || !room_allowed(f[2] as u16) {
-                return Err(4);
-            }
-            *slot = Some((Sender::new(f[0] as u16, f[1] as u32), Receiver::new(f[2] as u16, f[3] as u32)));
-            return Ok(vec![]);
-        }
-        let (sender, receiver) = slot.as_mut().ok_or(2)?;
-        match record.kind {
-            2 => {
-                *slot = None;
-                Ok(vec![])
-            }
-            3 => sender.send(f[0] as u16),
-            4 => receiver.arrive(f[0] as u32, f[1] as u16, f[2] as u8, f[3] as u32),
-            5 => sender.sack(f[0] as u32, f[1] as u32, f[2]),
-            6 => sender.nack(f[0] as u32, f[1] as u8),
-            7 => sender.timer(f[0] as u32),
-            _ => sender.resend(),
-        }
+        event(&mut self.slots, record.slot.into(), record.kind, &record.fields)
     }
 }
 
@@ -172,9 +188,9 @@ pub fn text(log: &[u8]) -> String {
     let mut out = String::from("mrc log 1\n");
     let last = replay(log, |record, outcome| {
         match outcome {
-            Ok(values) => {
+            Ok(done) => {
                 write!(out, "{} 0", record.kind).expect("a string takes all");
-                values.iter().for_each(|v| write!(out, " {v}").expect("a string takes all"));
+                done.values.iter().for_each(|v| write!(out, " {v}").expect("a string takes all"));
             }
             Err(number) => write!(out, "{} {number}", record.kind).expect("a string takes all"),
         }

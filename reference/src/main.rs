@@ -6,7 +6,15 @@
 //!     reference compare FROM COUNT SEED COMMAND..   has the command replay logs and compares the text
 //!     reference cases FOLDER COMMAND..              the same for NAME.words with the text in NAME.text
 //!     reference log SEED NUMBER > LOG               one of compare's logs
+//!     reference calls FROM COUNT SEED COMMAND..     has the command answer sequences of calls and compares the lines
+//!     reference call-cases FOLDER COMMAND..         the same for NAME.calls, which has the lines beside the calls
+//!     reference call SEED NUMBER > CALLS            one of calls' sequences
+//!     reference answer < CALLS                      the lines for a sequence
+//!     reference make-calls < NAME.calls > CALLS     the calls of such a file
+//!
+//! compare and calls fail where fewer than N are asked for if `--at-least N` stands before the command.
 
+mod calls;
 mod generate;
 mod log;
 mod side;
@@ -61,7 +69,7 @@ fn bytes(words: &str) -> Vec<u8> {
     out
 }
 
-/// What the command writes for a log; it must end with status 0.
+/// What the command writes for an input; it must end with status 0.
 fn replayed(command: &[String], log: &[u8]) -> Result<String, String> {
     let mut child = Command::new(&command[0])
         .args(&command[1..])
@@ -84,7 +92,7 @@ fn replayed(command: &[String], log: &[u8]) -> Result<String, String> {
 }
 
 fn differs(name: &str, log: &[u8], expected: &str, found: &Result<String, String>) -> ! {
-    let path = "target/differs.log";
+    let path = "target/differs";
     let _ = std::fs::create_dir_all("target");
     let _ = std::fs::write(path, log);
     eprintln!("reference: {name} ({} bytes, kept in {path}) differs", log.len());
@@ -115,8 +123,15 @@ const REACHABLE: &[(usize, &[u64])] = &[
     (8, &[0, 1, 2, 9]),
 ];
 
-/// How often each (kind, answer) pair was seen.
+/// How often each (kind, answer) pair was seen; kind LONG is for logs whose text is longer than two of the program's buffers, which it writes when
+/// they are full.
 type Seen = BTreeMap<(usize, u64), u64>;
+
+const LONG: usize = usize::MAX;
+const BUFFER: usize = 65_536;
+
+/// One log in so many at the least must have such a text.
+const ONE_LONG_IN: u64 = 200;
 
 /// Has the command replay log i of a seed, which must make its records again from its own words.
 fn compare_one(i: usize, seed: u64, command: &[String], seen: &mut Seen) {
@@ -124,7 +139,7 @@ fn compare_one(i: usize, seed: u64, command: &[String], seen: &mut Seen) {
     let last = log::replay(&log, |record, outcome| {
         let answer = match outcome {
             Err(number) => u64::from(*number),
-            Ok(values) if record.kind == 4 => 100 + values[0],
+            Ok(done) if record.kind == 4 => 100 + done.values[0],
             Ok(_) => 0,
         };
         *seen.entry((record.kind, answer)).or_default() += 1;
@@ -139,35 +154,44 @@ fn compare_one(i: usize, seed: u64, command: &[String], seen: &mut Seen) {
         fail(format!("log {i} of seed {seed}: its words do not make its records again"));
     }
     let expected = log::text(&log);
+    if expected.len() > 2 * BUFFER {
+        *seen.entry((LONG, 0)).or_default() += 1;
+    }
     let found = replayed(command, &log);
     if found.as_ref() != Ok(&expected) {
         differs(&format!("log {i} of seed {seed}"), &log, &expected, &found);
     }
 }
 
-/// Compares the logs on all processors, and tells which answers they had.
-fn compare(from: usize, count: usize, seed: u64, command: &[String]) {
+/// Does one after the other on all processors, and tells how often each thing was met.
+fn on_all<K: Ord + Send>(range: std::ops::Range<usize>, one: impl Fn(usize, &mut BTreeMap<K, u64>) + Sync) -> BTreeMap<K, u64> {
     let workers = std::thread::available_parallelism().map_or(1, |n| n.get());
-    let mut seen = Seen::new();
+    let mut seen = BTreeMap::new();
     std::thread::scope(|scope| {
         let share = |worker: usize| {
-            let mut seen = Seen::new();
-            for i in (from + worker..from + count).step_by(workers) {
-                compare_one(i, seed, command, &mut seen);
-            }
+            let mut seen = BTreeMap::new();
+            range.clone().skip(worker).step_by(workers).for_each(|i| one(i, &mut seen));
             seen
         };
         let running: Vec<_> = (0..workers).map(|worker| scope.spawn(move || share(worker))).collect();
         for worker in running {
-            for (pair, times) in worker.join().expect("a comparison ends") {
-                *seen.entry(pair).or_default() += times;
+            for (what, times) in worker.join().expect("a comparison ends") {
+                *seen.entry(what).or_default() += times;
             }
         }
     });
+    seen
+}
+
+/// Compares the logs, and tells which answers they had.
+fn compare(from: usize, count: usize, seed: u64, command: &[String]) {
+    let mut seen = on_all(from..from + count, |i, seen| compare_one(i, seed, command, seen));
+    let long = seen.remove(&(LONG, 0)).unwrap_or(0);
     for (kind, answers) in REACHABLE {
         let row: Vec<String> = answers.iter().map(|a| format!("{a}: {}", seen.get(&(*kind, *a)).unwrap_or(&0))).collect();
         println!("kind {kind}  {}", row.join("  "));
     }
+    println!("text of more than {} bytes: {long}", 2 * BUFFER);
     for (kind, answers) in REACHABLE {
         for answer in *answers {
             if !seen.contains_key(&(*kind, *answer)) {
@@ -178,15 +202,89 @@ fn compare(from: usize, count: usize, seed: u64, command: &[String]) {
     if let Some(pair) = seen.keys().find(|(kind, answer)| !REACHABLE.iter().any(|(k, a)| k == kind && a.contains(answer))) {
         fail(format!("kind {} was answered {}, which no log can reach", pair.0, pair.1));
     }
+    if long * ONE_LONG_IN < count as u64 {
+        fail(format!("only {long} of {count} logs have a text of more than {} bytes", 2 * BUFFER));
+    }
     println!("compare: {count} logs of seed {seed}, the same text for each");
 }
 
-fn cases(folder: &str, command: &[String]) {
+/// The lines for a sequence of calls.
+fn answers(sequence: &[calls::Call], seen: &mut calls::Seen) -> String {
+    let mut library = calls::Library::new();
+    sequence.iter().map(|call| library.line(call, seen)).collect()
+}
+
+/// Compares sequences of calls, and tells what they met.
+fn compare_calls(from: usize, count: usize, seed: u64, command: &[String]) {
+    let seen = on_all(from..from + count, |i, seen| {
+        let sequence = calls::sequence(seed, i);
+        let expected = answers(&sequence, seen);
+        let bytes = calls::bytes(&sequence);
+        let found = replayed(command, &bytes);
+        if found.as_ref() != Ok(&expected) {
+            differs(&format!("sequence {i} of seed {seed}"), &bytes, &expected, &found);
+        }
+    });
+    let reachable = calls::reachable();
+    for what in &reachable {
+        println!("{:7}  {what}", seen.get(what).unwrap_or(&0));
+    }
+    if let Some(what) = reachable.iter().find(|what| !seen.contains_key(*what)) {
+        fail(format!("no sequence of calls had: {what}"));
+    }
+    if let Some(what) = seen.keys().find(|what| !reachable.contains(what)) {
+        fail(format!("a sequence of calls had: {what}, which none can reach"));
+    }
+    println!("calls: {count} sequences of seed {seed}, the same lines for each");
+}
+
+/// The calls of a file, and the line that stands beside each after `=>`.
+fn call_script(text: &str) -> Vec<(calls::Call, String)> {
+    let mut out = Vec::new();
+    for (n, line) in text.lines().enumerate() {
+        let line = line.split('#').next().unwrap_or("").trim();
+        if line.is_empty() {
+            continue;
+        }
+        let (call, answer) = line.split_once("=>").unwrap_or_else(|| fail(format!("line {}: no => in it", n + 1)));
+        let call = calls::from_words(call).unwrap_or_else(|why| fail(format!("line {}: {why}", n + 1)));
+        out.push((call, format!("{}\n", answer.trim())));
+    }
+    out
+}
+
+/// The names in a folder that have an ending.
+fn names(folder: &str, ending: &str) -> Vec<String> {
     let mut names: Vec<_> = std::fs::read_dir(folder)
         .unwrap_or_else(|e| fail(format!("{folder}: {e}")))
-        .filter_map(|entry| entry.ok()?.path().file_name()?.to_str()?.strip_suffix(".words").map(String::from))
+        .filter_map(|entry| entry.ok()?.path().file_name()?.to_str()?.strip_suffix(ending).map(String::from))
         .collect();
     names.sort();
+    if names.is_empty() {
+        fail(format!("{folder} has no case"));
+    }
+    names
+}
+
+fn call_cases(folder: &str, command: &[String]) {
+    let names = names(folder, ".calls");
+    for name in &names {
+        let text = std::fs::read_to_string(format!("{folder}/{name}.calls")).unwrap_or_else(|e| fail(format!("{name}.calls: {e}")));
+        let (sequence, lines): (Vec<calls::Call>, Vec<String>) = call_script(&text).into_iter().unzip();
+        let expected = lines.concat();
+        let own = answers(&sequence, &mut calls::Seen::new());
+        let bytes = calls::bytes(&sequence);
+        for (who, found) in [("reference", Ok(own)), ("command", replayed(command, &bytes))] {
+            if found.as_ref() != Ok(&expected) {
+                differs(&format!("case {name}, by the {who},"), &bytes, &expected, &found);
+            }
+        }
+    }
+    println!("call-cases: {} with the expected lines: {}", names.len(), names.join(" "));
+}
+
+fn cases(folder: &str, command: &[String]) {
+    let names = names(folder, ".words");
     for name in &names {
         let read = |ending: &str| std::fs::read_to_string(format!("{folder}/{name}.{ending}")).unwrap_or_else(|e| fail(format!("{name}.{ending}: {e}")));
         let log = bytes(&read("words"));
@@ -199,23 +297,56 @@ fn cases(folder: &str, command: &[String]) {
             fail(format!("case {name}: the reference itself gives another text"));
         }
     }
-    if names.is_empty() {
-        fail(format!("{folder} has no case"));
-    }
     println!("cases: {} with the expected text: {}", names.len(), names.join(" "));
+}
+
+fn number(s: &str) -> u64 {
+    s.parse().unwrap_or_else(|_| fail(format!("{s} is no number")))
+}
+
+/// How many are asked for, which must not be fewer than `--at-least` says.
+fn floor(count: &str, args: &[String]) -> usize {
+    if args[4] == "--at-least" && number(count) < number(args.get(5).map_or("", |n| n)) {
+        fail(format!("{count} are asked for, fewer than {}", args[5]));
+    }
+    number(count) as usize
+}
+
+/// The command of compare and calls.
+fn command(args: &[String]) -> &[String] {
+    let from = if args[4] == "--at-least" { 6 } else { 4 };
+    if args.len() <= from {
+        fail("no command".into());
+    }
+    &args[from..]
+}
+
+fn from_bytes(bytes: &[u8]) -> Vec<calls::Call> {
+    let number = |part: &[u8]| u64::from_be_bytes(part.try_into().expect("eight bytes"));
+    let call = |part: &[u8]| std::array::from_fn(|i| number(&part[8 * i..8 * i + 8]));
+    bytes.chunks_exact(64).map(call).collect()
 }
 
 fn main() {
     let args: Vec<String> = std::env::args().skip(1).collect();
     let words_of: Vec<&str> = args.iter().map(String::as_str).collect();
-    let number = |s: &str| s.parse::<u64>().unwrap_or_else(|_| fail(format!("{s} is no number")));
     match words_of.as_slice() {
         ["replay"] => output(log::text(&input()).as_bytes()),
         ["show"] => output(words(&input()).as_bytes()),
         ["make"] => output(&bytes(&String::from_utf8_lossy(&input()))),
         ["log", seed, i] => output(&generate::log(number(seed), number(i) as usize)),
-        ["compare", from, count, seed, _, ..] => compare(number(from) as usize, number(count) as usize, number(seed), &args[4..]),
+        ["compare", from, count, seed, _, ..] => compare(number(from) as usize, floor(count, &args), number(seed), command(&args)),
         ["cases", folder, _, ..] => cases(folder, &args[2..]),
-        _ => fail("usage: replay | show | make | log SEED NUMBER | compare FROM COUNT SEED COMMAND.. | cases FOLDER COMMAND..".into()),
+        ["calls", from, count, seed, _, ..] => compare_calls(number(from) as usize, floor(count, &args), number(seed), command(&args)),
+        ["call-cases", folder, _, ..] => call_cases(folder, &args[2..]),
+        ["call", seed, i] => output(&calls::bytes(&calls::sequence(number(seed), number(i) as usize))),
+        ["answer"] => output(answers(&from_bytes(&input()), &mut calls::Seen::new()).as_bytes()),
+        ["make-calls"] => {
+            let sequence: Vec<calls::Call> = call_script(&String::from_utf8_lossy(&input())).into_iter().map(|pair| pair.0).collect();
+            output(&calls::bytes(&sequence));
+        }
+        _ => fail("usage: replay | show | make | log SEED NUMBER | compare FROM COUNT SEED [--at-least N] COMMAND.. | cases FOLDER COMMAND.. | \
+            calls FROM COUNT SEED [--at-least N] COMMAND.. | call-cases FOLDER COMMAND.. | call SEED NUMBER | answer | make-calls"
+            .into()),
     }
 }

@@ -23,20 +23,54 @@ pub fn size_allowed(size: u16) -> bool {
     (48..=9216).contains(&size)
 }
 
-/// What an event gives: the refusal's number, or the values of its line.
-pub type Outcome = Result<Vec<u64>, u8>;
+/// What an event that is done gives: the values of its line, and what only the library hands out: a SACK's MPR, a NACK's reason.
+#[derive(Clone, Debug, PartialEq)]
+pub struct Done {
+    pub values: Vec<u64>,
+    pub unprinted: Vec<u64>,
+}
+
+/// What an event gives: the refusal's number, or what is done.
+pub type Outcome = Result<Done, u8>;
+
+/// Values, and nothing beside them.
+pub fn done(values: Vec<u64>) -> Outcome {
+    Ok(Done { values, unprinted: vec![] })
+}
+
+/// The words in which a record keeps packet numbers: bit b of word j is number 64 j + b from the block of 64 on in which `from` lies.
+pub const WORDS: u32 = 9;
+
+fn words(from: u32, has: impl Fn(u32, bool) -> bool) -> Vec<u64> {
+    let first = from - from % 64;
+    let bit = |i: u32| u64::from(has(on(first, i), i < from % 64)) << (i % 64);
+    (0..WORDS).map(|j| (64 * j..64 * j + 64).map(bit).sum()).collect()
+}
+
+/// The reasons of a NACK, and the MPR of a SACK.
+const TRIM: u64 = 1;
+const TRIM_LASTHOP: u64 = 2;
+const NO_BITMAP: u64 = 3;
+const NO_PKT_BUFFER: u64 = 4;
+const MPR: u64 = 0;
 
 #[derive(Clone)]
 pub struct Receiver {
-    room: u32,
-    expected: u32,
+    pub room: u32,
+    pub expected: u32,
     ahead: BTreeSet<u32>,
-    bytes: u32,
+    pub bytes: u32,
 }
 
 impl Receiver {
     pub fn new(room: u16, first: u32) -> Self {
         Receiver { room: room as u32, expected: first, ahead: BTreeSet::new(), bytes: 0 }
+    }
+
+    /// The record in numbers: its room, the expected packet number, the count, and the words of those accepted, all before E with them.
+    pub fn record(&self) -> Vec<u64> {
+        let accepted = words(self.expected, |psn, before| before || self.ahead.contains(&psn));
+        [vec![self.room.into(), self.expected.into(), self.bytes.into()], accepted].concat()
     }
 
     pub fn arrive(&mut self, psn: u32, size: u16, flags: u8, entropy: u32) -> Outcome {
@@ -47,20 +81,20 @@ impl Receiver {
             return Err(14);
         }
         let rtx = u64::from(flags >> 1 & 1);
-        let negative = |answer: u64| Ok(vec![answer, psn.into(), entropy.into(), rtx]);
+        let negative = |answer: u64, reason: u64| Ok(Done { values: vec![answer, psn.into(), entropy.into(), rtx], unprinted: vec![reason] });
         if flags & 4 != 0 {
-            return negative(4);
+            return negative(4, TRIM);
         }
         if flags & 8 != 0 {
-            return negative(5);
+            return negative(5, TRIM_LASTHOP);
         }
         let far = distance(self.expected, psn);
         let known = far >= HALF || self.ahead.contains(&psn);
         if !known && far >= self.room {
-            return negative(2);
+            return negative(2, NO_BITMAP);
         }
         if !known && flags & 16 != 0 {
-            return negative(3);
+            return negative(3, NO_PKT_BUFFER);
         }
         if !known {
             self.ahead.insert(psn);
@@ -70,16 +104,9 @@ impl Receiver {
             }
         }
         let (base, bitmap) = self.block(psn);
-        Ok(vec![
-            known.into(),
-            on(self.expected, TURN - 1).into(),
-            base.into(),
-            bitmap,
-            (self.bytes / 256).into(),
-            entropy.into(),
-            rtx,
-            u64::from(flags & 1),
-        ])
+        let cack = on(self.expected, TURN - 1);
+        let values = vec![known.into(), cack.into(), base.into(), bitmap, (self.bytes / 256).into(), entropy.into(), rtx, u64::from(flags & 1)];
+        Ok(Done { values, unprinted: vec![MPR] })
     }
 
     fn block(&self, psn: u32) -> (u32, u64) {
@@ -104,8 +131,8 @@ struct Sent {
 
 #[derive(Clone)]
 pub struct Sender {
-    room: u32,
-    place: u32,
+    pub room: u32,
+    pub place: u32,
     /// By how far a packet lies after the very first place: this never wraps.
     packets: BTreeMap<u64, Sent>,
     retired_to: u64,
@@ -117,7 +144,7 @@ impl Sender {
         Sender { room: room as u32, place: on(first, TURN - 1), packets: BTreeMap::new(), retired_to: 0, sent_to: 0 }
     }
 
-    fn outstanding(&self) -> u32 {
+    pub fn outstanding(&self) -> u32 {
         (self.sent_to - self.retired_to) as u32
     }
 
@@ -129,6 +156,21 @@ impl Sender {
         self.packets.values().filter(|p| !p.retired).map(|p| u64::from(p.size)).sum()
     }
 
+    /// The record in numbers: its room, the place, how many are outstanding, the held bytes, and the words of those retired, all to the place with
+    /// them, and of those marked.
+    pub fn record(&self) -> Vec<u64> {
+        let first = on(self.place, 1);
+        let sent = |psn: u32| self.packets.get(&(self.retired_to + 1 + u64::from(distance(first, psn))));
+        let retired = words(first, |psn, before| before || sent(psn).is_some_and(|p| p.retired));
+        let marked = words(first, |psn, _| sent(psn).is_some_and(|p| p.marked));
+        [vec![self.room.into(), self.place.into(), self.outstanding().into(), self.held()], retired, marked].concat()
+    }
+
+    /// The sizes of the packets outstanding.
+    pub fn sizes(&self) -> Vec<u64> {
+        self.packets.values().map(|p| p.size.into()).collect()
+    }
+
     pub fn send(&mut self, size: u16) -> Outcome {
         if !size_allowed(size) {
             return Err(6);
@@ -138,7 +180,7 @@ impl Sender {
         }
         self.sent_to += 1;
         self.packets.insert(self.sent_to, Sent { size, retired: false, marked: false });
-        Ok(vec![self.psn(self.sent_to).into()])
+        done(vec![self.psn(self.sent_to).into()])
     }
 
     /// The outstanding packet of a PSN, nothing if it is behind, or refusal 8.
@@ -177,7 +219,7 @@ impl Sender {
             self.packets.remove(&self.retired_to);
             self.place = on(self.place, 1);
         }
-        Ok(vec![newly, self.place.into(), self.held()])
+        done(vec![newly, self.place.into(), self.held()])
     }
 
     pub fn timer(&mut self, psn: u32) -> Outcome {
@@ -190,13 +232,13 @@ impl Sender {
             }
             None => false,
         };
-        Ok(vec![marks.into()])
+        done(vec![marks.into()])
     }
 
     pub fn nack(&mut self, psn: u32, reason: u8) -> Outcome {
         match reason {
             1..=4 => self.timer(psn),
-            5 | 6 => self.find(psn).map(|_| vec![0]),
+            5 | 6 => self.find(psn).and(done(vec![0])),
             _ => Err(15),
         }
     }
@@ -204,6 +246,6 @@ impl Sender {
     pub fn resend(&mut self) -> Outcome {
         let packet = self.packets.iter().find(|(_, sent)| sent.marked).map(|(&packet, _)| packet).ok_or(9)?;
         self.packets.get_mut(&packet).expect("just found").marked = false;
-        Ok(vec![self.psn(packet).into()])
+        done(vec![self.psn(packet).into()])
     }
 }

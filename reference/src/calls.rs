@@ -1,0 +1,622 @@
+//! Calls of the library, from document 01: what each gives, calls in words, and random sequences of them.
+//!
+//! A call is eight numbers: its op, a, b, c and four fields. The program answers each with a line, its op first.
+//!
+//!     1 event   kind c with the fields, on slot b of the first a slots
+//!     2 empty   the first a slots
+//!     3 record  of slot a
+//!     4 poke    byte a becomes b
+//!     5 fill    the first a bytes become b
+//!     6 read    at place b of the first a bytes
+//!     7 write   kind c with the fields and slot b into the first a bytes
+//!     8 count   a receiver started at PSN a with its count set to b; then an arrival of a with size c, and flags and entropy of the fields
+//!     9 lent    the same over lent words
+
+use crate::generate::Chance;
+use crate::log::{self, Record, Slot, KINDS, LONGEST, PSN_WIDTH, SLOTS};
+use crate::side::{on, Outcome, Receiver, HALF, TURN, WORDS};
+use std::collections::BTreeMap;
+
+const TABLE: usize = 20;
+const BYTES: usize = 33_000;
+const SHOWN: usize = 40;
+
+/// The names of the ops, and of each op's numbers before the fields. Of those that take an event, its kind and fields come after.
+const OPS: [(&str, &[&str]); 9] = [
+    ("event", &["lent", "slot"]),
+    ("empty", &["lent"]),
+    ("record", &["slot"]),
+    ("poke", &["at", "byte"]),
+    ("fill", &["bytes", "byte"]),
+    ("read", &["bytes", "place"]),
+    ("write", &["bytes", "slot"]),
+    ("count", &["first", "count", "size", "flags", "entropy"]),
+    ("lent", &["first", "count", "size", "flags", "entropy"]),
+];
+
+const TAKES_EVENT: [u64; 2] = [1, 7];
+
+pub type Call = [u64; 8];
+
+/// How often each thing was met.
+pub type Seen = BTreeMap<String, u64>;
+
+fn saw(seen: &mut Seen, what: String) {
+    *seen.entry(what).or_default() += 1;
+}
+
+pub fn bytes(calls: &[Call]) -> Vec<u8> {
+    calls.iter().flatten().flat_map(|n| n.to_be_bytes()).collect()
+}
+
+/// The table and the bytes that the program keeps.
+pub struct Library {
+    slots: Vec<Slot>,
+    bytes: Vec<u8>,
+}
+
+/// The kind and the fields of a call's event, if each number fits: a PSN 32 bits, another field its width.
+fn event_of(call: &Call) -> Option<(usize, Vec<u64>)> {
+    let kind = usize::try_from(call[3]).ok()?;
+    let fields = KINDS.get(kind.checked_sub(1)?)?.fields;
+    let fits = |&(_, width): &(&str, usize), v: u64| v.checked_shr(8 * if width == PSN_WIDTH { 4 } else { width } as u32).unwrap_or(0) == 0;
+    let values: Vec<u64> = call[4..].iter().copied().take(fields.len()).collect();
+    fields.iter().zip(&values).all(|(field, &v)| fits(field, v)).then_some((kind, values))
+}
+
+/// An answer in numbers: its number, the kind, 0 beside a refusal, and all its values.
+fn numbers(kind: usize, outcome: &Outcome) -> Vec<u64> {
+    match outcome {
+        Err(number) => vec![(*number).into(), 0],
+        Ok(done) => [&[0, kind as u64], &done.values[..], &done.unprinted[..]].concat(),
+    }
+}
+
+/// What an arrival was judged, with what only the library hands out; or its refusal.
+fn judged(outcome: &Outcome) -> String {
+    match outcome {
+        Err(number) => format!("refused {number}"),
+        Ok(done) => format!("arrival {} with {}", done.values[0], done.unprinted[0]),
+    }
+}
+
+fn lent_class(lent: usize) -> &'static str {
+    match lent {
+        0 => "0",
+        1 => "1",
+        2..=14 => "2 to 14",
+        15 => "15",
+        16 => "16",
+        17 => "17",
+        18..=19 => "18, 19",
+        _ => "20",
+    }
+}
+
+fn slot_class(slot: u64) -> &'static str {
+    match slot {
+        0..=14 => "0 to 14",
+        15 => "15",
+        16 => "16",
+        17..=18 => "17, 18",
+        19 => "19",
+        20..=0xFFFF_FFFF => "20 on",
+        _ => "past 32 bits",
+    }
+}
+
+fn place_class(place: u64, end: u64) -> &'static str {
+    match place {
+        u64::MAX => "the largest",
+        _ if place > end => "past the end",
+        _ if place == end => "at the end",
+        0 => "0",
+        _ => "inside",
+    }
+}
+
+impl Library {
+    pub fn new() -> Self {
+        Library { slots: vec![None; TABLE], bytes: vec![0; BYTES] }
+    }
+
+    /// The line of a call.
+    pub fn line(&mut self, call: &Call, seen: &mut Seen) -> String {
+        let name = OPS.get((call[0] as usize).wrapping_sub(1)).map_or("unknown", |op| op.0);
+        match self.answer(call, seen) {
+            None => {
+                saw(seen, format!("{name} out of range"));
+                format!("{} ?\n", call[0])
+            }
+            Some(values) => {
+                let words: Vec<String> = std::iter::once(call[0]).chain(values).map(|v| v.to_string()).collect();
+                words.join(" ") + "\n"
+            }
+        }
+    }
+
+    fn answer(&mut self, call: &Call, seen: &mut Seen) -> Option<Vec<u64>> {
+        let [op, a, b, ..] = *call;
+        let index = usize::try_from(a).ok()?;
+        match op {
+            1 => self.event(index, b, event_of(call)?, seen),
+            2 => {
+                let lent = self.slots.get_mut(..index)?;
+                saw(seen, format!("empty {} slots", lent_class(index)));
+                if lent.iter().any(Option::is_some) {
+                    saw(seen, "empty slots in use".into());
+                }
+                lent.fill(None);
+                if self.slots[index..].iter().any(Option::is_some) {
+                    saw(seen, "empty with slots in use left".into());
+                }
+                Some(vec![])
+            }
+            3 => {
+                let slot = self.slots.get(index)?;
+                saw(seen, format!("record of slot {}", slot_class(a)));
+                Some(record(slot, seen))
+            }
+            4 => {
+                let byte = self.bytes.get_mut(index)?;
+                *byte = u8::try_from(b).ok()?;
+                saw(seen, "poke".into());
+                Some(vec![])
+            }
+            5 => {
+                let byte = u8::try_from(b).ok()?;
+                self.bytes.get_mut(..index)?.fill(byte);
+                saw(seen, "fill".into());
+                Some(vec![])
+            }
+            6 => Some(read(self.bytes.get(..index)?, b, seen)),
+            7 => {
+                let slot = u8::try_from(b).ok()?;
+                let (kind, fields) = event_of(call)?;
+                Some(write(self.bytes.get_mut(..index)?, slot, kind, &fields, seen))
+            }
+            8 | 9 => counted(call, seen),
+            _ => None,
+        }
+    }
+
+    fn event(&mut self, lent: usize, slot: u64, (kind, fields): (usize, Vec<u64>), seen: &mut Seen) -> Option<Vec<u64>> {
+        let table = self.slots.get_mut(..lent)?;
+        let outcome = log::event(table, slot as usize, kind, &fields);
+        let past = matches!(outcome, Err(1));
+        saw(seen, format!("event on slot {} {}", slot_class(slot), if past { "refused 1" } else { "let in" }));
+        saw(seen, format!("event with {} slots {}", lent_class(lent), if past { "refused 1" } else { "let in" }));
+        if past && slot < lent as u64 {
+            saw(seen, "event past 16 in a longer table".into());
+        }
+        saw(seen, match (&outcome, kind) {
+            (_, 4) => format!("arrive: {}", judged(&outcome)),
+            (Ok(_), _) => format!("{}: done", KINDS[kind - 1].name),
+            (Err(number), _) => format!("{}: refused {number}", KINDS[kind - 1].name),
+        });
+        Some(numbers(kind, &outcome))
+    }
+}
+
+/// A slot's record in numbers: all zero if it is not in use.
+fn record(slot: &Slot, seen: &mut Seen) -> Vec<u64> {
+    match slot {
+        None => {
+            saw(seen, "record of no connection".into());
+            vec![0; 4 + 3 + 3 * WORDS as usize]
+        }
+        Some((sender, receiver)) => {
+            let (send, receive) = (sender.record(), receiver.record());
+            let words = WORDS as usize;
+            saw(seen, "record of a connection".into());
+            if send[4 + words..].iter().any(|&w| w != 0) {
+                saw(seen, "record with marks".into());
+            }
+            if sender.sizes().len() > 64 {
+                saw(seen, "record with more than 64 outstanding".into());
+            }
+            [send, receive, sender.sizes()].concat()
+        }
+    }
+}
+
+fn read(log: &[u8], place: u64, seen: &mut Seen) -> Vec<u64> {
+    let at = usize::try_from(place).expect("a place has 64 bits");
+    let found = log::read(log, at);
+    let class = place_class(place, log.len() as u64);
+    let mut out = match &found {
+        Ok(Some((record, next))) => {
+            saw(seen, format!("read a {} record", KINDS[record.kind - 1].name));
+            saw(seen, format!("read a record {class}"));
+            let kind = record.kind as u64;
+            [&[0, kind, *next as u64, record.slot.into(), kind], &record.fields[..]].concat()
+        }
+        Ok(None) => {
+            saw(seen, format!("read {class}"));
+            vec![0, 0, 0]
+        }
+        Err(number) => {
+            let left = log.len().saturating_sub(at);
+            let short = if *number == 10 { if left < 3 { " before the kind" } else { " in a record" } } else { "" };
+            saw(seen, format!("read refused {number}{short}"));
+            if *number == 13 && log.len() <= at {
+                saw(seen, "read refused 13 past the end".into());
+            }
+            vec![(*number).into(), 0, 0]
+        }
+    };
+    let body = match found {
+        Ok(Some((_, next))) => &log[at + 3..next],
+        _ => &[],
+    };
+    out.push(body.len() as u64);
+    out.extend(body.iter().map(|&b| u64::from(b)));
+    out
+}
+
+fn write(buffer: &mut [u8], slot: u8, kind: usize, fields: &[u64], seen: &mut Seen) -> Vec<u64> {
+    let name = KINDS[kind - 1].name;
+    let high = KINDS[kind - 1].fields.iter().zip(fields).any(|(field, &v)| field.1 == PSN_WIDTH && v >= u64::from(TURN));
+    let bytes = Record::new(kind, slot, fields).bytes();
+    let mut out = if high {
+        saw(seen, format!("write a {name} refused 5{}", if buffer.len() < bytes.len() { " before 16" } else { "" }));
+        vec![5, 0]
+    } else if buffer.len() < bytes.len() {
+        saw(seen, format!("write a {name} refused 16"));
+        vec![16, 0]
+    } else {
+        saw(seen, format!("write a {name}"));
+        buffer[..bytes.len()].copy_from_slice(&bytes);
+        vec![0, bytes.len() as u64]
+    };
+    out.extend(buffer.iter().take(SHOWN).map(|&b| u64::from(b)));
+    out
+}
+
+/// Ops 8 and 9.
+fn counted(call: &Call, seen: &mut Seen) -> Option<Vec<u64>> {
+    let [op, first, count, size, flags, entropy, ..] = *call;
+    let name = OPS[op as usize - 1].0;
+    let first = u32::try_from(first).ok()?;
+    let count = u32::try_from(count).ok()?;
+    let size = u16::try_from(size).ok()?;
+    let flags = u8::try_from(flags).ok()?;
+    let entropy = u32::try_from(entropy).ok()?;
+    if first >= TURN {
+        saw(seen, format!("{name}: start refused 5"));
+        return Some(vec![5, 0]);
+    }
+    let mut receiver = Receiver::new(64, first);
+    receiver.bytes = count;
+    let outcome = receiver.arrive(first, size, flags, entropy);
+    saw(seen, format!("{name}: {}", judged(&outcome)));
+    if receiver.bytes < count {
+        saw(seen, format!("{name}: wraps"));
+    }
+    Some([numbers(4, &outcome), receiver.record()].concat())
+}
+
+/// All that a sequence of calls can meet.
+pub fn reachable() -> Vec<String> {
+    let mut all: Vec<String> = Vec::new();
+    let mut add = |what: String| all.push(what);
+    for (name, _) in OPS {
+        add(format!("{name} out of range"));
+    }
+    add("unknown out of range".into());
+    for lent in ["0", "1", "2 to 14", "15", "16", "17", "18, 19", "20"] {
+        add(format!("event with {lent} slots refused 1"));
+        if lent != "0" {
+            add(format!("event with {lent} slots let in"));
+        }
+        add(format!("empty {lent} slots"));
+    }
+    for slot in ["0 to 14", "15", "16", "17, 18", "19", "20 on", "past 32 bits"] {
+        add(format!("event on slot {slot} refused 1"));
+    }
+    for slot in ["0 to 14", "15"] {
+        add(format!("event on slot {slot} let in"));
+    }
+    for slot in ["0 to 14", "15", "16", "17, 18", "19"] {
+        add(format!("record of slot {slot}"));
+    }
+    for what in ["event past 16 in a longer table", "empty slots in use", "empty with slots in use left", "poke", "fill"] {
+        add(what.into());
+    }
+    for what in ["record of no connection", "record of a connection", "record with marks", "record with more than 64 outstanding"] {
+        add(what.into());
+    }
+    // the order of document 01's refusals, kind by kind
+    let refusals: [&[u8]; 8] = [&[1, 3, 4, 5], &[1, 2], &[1, 2, 6, 7], &[1, 2, 5, 6, 14], &[1, 2, 5, 8], &[1, 2, 5, 15, 8], &[1, 2, 5, 8], &[1, 2, 9]];
+    // each arrival answer, with the MPR or the reason beside it
+    let judgements = ["arrival 0 with 0", "arrival 1 with 0", "arrival 2 with 3", "arrival 3 with 4", "arrival 4 with 1", "arrival 5 with 2"];
+    for (kind, numbers) in KINDS.iter().zip(refusals) {
+        let name = kind.name;
+        numbers.iter().for_each(|number| add(format!("{name}: refused {number}")));
+        if name == "arrive" {
+            judgements.iter().for_each(|judgement| add(format!("{name}: {judgement}")));
+        } else {
+            add(format!("{name}: done"));
+        }
+        add(format!("read a {name} record"));
+        add(format!("write a {name}"));
+        add(format!("write a {name} refused 16"));
+        if kind.fields.iter().any(|&(_, width)| width == PSN_WIDTH) {
+            add(format!("write a {name} refused 5"));
+            add(format!("write a {name} refused 5 before 16"));
+        }
+    }
+    for what in ["a record 0", "a record inside", "at the end", "past the end", "the largest", "refused 10 before the kind", "refused 10 in a record"] {
+        add(format!("read {what}"));
+    }
+    for what in ["refused 11", "refused 12", "refused 13", "refused 13 past the end"] {
+        add(format!("read {what}"));
+    }
+    for name in ["count", "lent"] {
+        for what in ["start refused 5", "refused 6", "refused 14", "wraps"] {
+            add(format!("{name}: {what}"));
+        }
+        for judgement in [0, 3, 4, 5] {
+            add(format!("{name}: {}", judgements[judgement]));
+        }
+    }
+    all
+}
+
+/// A call from words, as `event lent=20 slot=0 send size=100`, or `call` and eight numbers.
+pub fn from_words(line: &str) -> Result<Call, String> {
+    let mut words = line.split_whitespace().peekable();
+    let name = words.next().ok_or("an empty line")?;
+    let number = |s: &str| s.parse::<u64>().map_err(|_| format!("{s} is no number"));
+    if name == "call" {
+        let all = words.map(number).collect::<Result<Vec<u64>, String>>()?;
+        return all.try_into().map_err(|_| "a call has eight numbers".into());
+    }
+    let op = OPS.iter().position(|op| op.0 == name).ok_or(format!("no op {name}"))?;
+    let mut call = [0; 8];
+    call[0] = op as u64 + 1;
+    let mut fields: Vec<&str> = OPS[op].1.to_vec();
+    let mut at: Vec<usize> = (1..=fields.len()).collect();
+    let mut taken = 0;
+    while taken < fields.len() {
+        let word = words.next().ok_or(format!("{} is missing", fields[taken]))?;
+        let (key, value) = word.split_once('=').ok_or(format!("{word} is not NAME=NUMBER"))?;
+        if key != fields[taken] {
+            return Err(format!("{key} stands where {} belongs", fields[taken]));
+        }
+        call[at[taken]] = number(value)?;
+        taken += 1;
+        if taken == fields.len() && TAKES_EVENT.contains(&call[0]) && call[3] == 0 {
+            let kind = words.next().ok_or("an event is missing")?;
+            let k = KINDS.iter().position(|k| k.name == kind).ok_or(format!("no kind {kind}"))?;
+            call[3] = k as u64 + 1;
+            fields.extend(KINDS[k].fields.iter().map(|field| field.0));
+            at.extend(4..4 + KINDS[k].fields.len());
+        }
+    }
+    match words.next() {
+        Some(extra) => Err(format!("{extra} is one word too many")),
+        None => Ok(call),
+    }
+}
+
+/// A sequence of calls that grows with the library that answers them.
+struct Script {
+    library: Library,
+    calls: Vec<Call>,
+}
+
+impl Script {
+    fn call(&mut self, call: Call) {
+        self.library.answer(&call, &mut Seen::new());
+        self.calls.push(call);
+    }
+
+    fn event(&mut self, lent: u64, slot: u64, kind: u64, fields: &[u64]) {
+        let mut call = [1, lent, slot, kind, 0, 0, 0, 0];
+        call[4..4 + fields.len()].copy_from_slice(fields);
+        self.call(call);
+    }
+}
+
+/// A PSN near one: on it, close by, at the edges of rooms and of the half; seldom one that is no PSN.
+fn near(chance: &mut Chance, psn: u32, room: u32) -> u64 {
+    if chance.one_in(25) {
+        return chance.pick(&[TURN.into(), TURN as u64 + 1, u32::MAX.into(), u32::MAX as u64 - 3, TURN as u64 + psn as u64]);
+    }
+    if chance.one_in(300) {
+        return (1 << 32) + u64::from(psn);
+    }
+    let by = match chance.below(10) {
+        0..=3 => chance.below(4) as u32,
+        4..=6 => chance.below(room.max(1).into()) as u32,
+        7 => chance.pick(&[63, 64, room - 1, room, room + 1]),
+        8 => chance.pick(&[TURN - 1, TURN - 2, TURN - 64]),
+        _ => chance.pick(&[HALF - 1, HALF, HALF + 1, HALF - 64]),
+    };
+    on(psn, by).into()
+}
+
+fn some_size(chance: &mut Chance) -> u64 {
+    match chance.below(12) {
+        0 => chance.pick(&[0, 47, 9217, 65_535, 65_536]),
+        1 => chance.pick(&[48, 9216]),
+        _ => 48 + chance.below(9169),
+    }
+}
+
+fn some_flags(chance: &mut Chance) -> u64 {
+    match chance.below(12) {
+        0 => chance.below(260),
+        1..=4 => chance.pick(&[0, 1, 2, 3]),
+        _ => chance.pick(&[0, 0, 1, 2, 4, 8, 16, 20, 24, 5, 10, 6, 9, 18]),
+    }
+}
+
+fn some_reason(chance: &mut Chance) -> u64 {
+    if chance.one_in(60) { 256 } else { chance.below(8) }
+}
+
+fn some_bitmap(chance: &mut Chance) -> u64 {
+    match chance.below(4) {
+        0 => chance.next(),
+        1 => 0,
+        2 => 1 << chance.below(64),
+        _ => chance.below(16),
+    }
+}
+
+/// The fields of an event of a kind, mostly sensible for a slot: its two sides' PSNs and rooms are (place + 1, outstanding) and (E, room).
+fn some_fields(chance: &mut Chance, kind: u64, slot: &Slot, first: u32) -> Vec<u64> {
+    let (sent, outstanding, expected, room) = match slot {
+        Some((sender, receiver)) => (on(sender.place, 1), sender.outstanding(), receiver.expected, receiver.room),
+        None => (first, 4, first, 64),
+    };
+    let entropy = chance.below(1 << 32);
+    match kind {
+        1 => {
+            let some_room = |chance: &mut Chance| match chance.below(12) {
+                0 => chance.pick(&[0, 63, 65, 100, 513, 576, 65_535, 65_536]),
+                1 => 512,
+                _ => 64 * (1 + chance.below(8)),
+            };
+            let (send, receive) = (some_room(chance), some_room(chance));
+            let psns = if chance.one_in(8) { [near(chance, first, 64), near(chance, first, 64)] } else { [first.into(), first.into()] };
+            vec![send, psns[0], receive, psns[1]]
+        }
+        3 => vec![some_size(chance)],
+        4 => vec![near(chance, expected, room), some_size(chance), some_flags(chance), entropy],
+        5 if chance.one_in(2) && outstanding > 0 => {
+            // an honest one: a cack and bits of packets that are outstanding
+            let by = chance.below(u64::from(outstanding) + 1) as u32;
+            let base = on(sent, chance.below(outstanding.into()) as u32);
+            let left = outstanding - crate::side::distance(sent, base);
+            let mask = if left >= 64 { u64::MAX } else { (1 << left) - 1 };
+            vec![on(sent, by + TURN - 1).into(), base.into(), chance.next() & mask]
+        }
+        5 => vec![near(chance, on(sent, TURN - 1), outstanding.max(1)), near(chance, sent, outstanding.max(1)), some_bitmap(chance)],
+        6 | 7 => {
+            let psn = if chance.one_in(2) && outstanding > 0 {
+                on(sent, chance.below(outstanding.into()) as u32).into()
+            } else {
+                near(chance, sent, outstanding.max(1))
+            };
+            vec![psn, some_reason(chance)]
+        }
+        _ => vec![],
+    }
+}
+
+fn an_event(chance: &mut Chance, script: &mut Script, first: u32) {
+    let any = chance.below(22);
+    let lent = if chance.one_in(4) { chance.pick(&[0, 1, 15, 16, 17, 18, 19, any]) } else { 20 };
+    let slot = match chance.below(12) {
+        0 => chance.pick(&[15, 16, 17, 18, 19, 20, 255, 256, 1 << 32, u64::MAX, lent, lent.wrapping_sub(1)]),
+        1..=3 => chance.pick(&[1, 2, 15]),
+        _ => 0,
+    };
+    let record = script.library.slots.get(slot as usize).cloned().flatten();
+    let kind = match record {
+        None if chance.one_in(4) => chance.below(10),
+        None => 1,
+        Some(_) => chance.pick(&[1, 2, 3, 3, 3, 3, 3, 3, 4, 4, 4, 4, 4, 4, 5, 5, 5, 6, 6, 7, 8, 8]),
+    };
+    let fields = some_fields(chance, kind, &record, first);
+    script.event(lent, slot, kind, &fields);
+    // what was marked may be sent again at once
+    if (kind == 6 || kind == 7) && chance.one_in(3) {
+        script.event(lent, slot, 8, &[]);
+    }
+}
+
+/// A log is put together in the bytes, by writes and pokes, and read.
+fn a_log(chance: &mut Chance, script: &mut Script, first: u32) {
+    match chance.below(8) {
+        0..=2 => {
+            let kind = chance.below(9);
+            let mut fields = some_fields(chance, kind, &None, first);
+            let psns = KINDS.get((kind as usize).wrapping_sub(1)).map_or(&[][..], |k| k.fields).iter().map(|field| field.1 == PSN_WIDTH);
+            if chance.one_in(2) {
+                // one of its PSNs is none
+                fields.iter_mut().zip(psns).filter(|(_, is_psn)| *is_psn).take(1 + chance.below(2) as usize).for_each(|(v, _)| *v = TURN.into());
+            }
+            let whole = KINDS.get((kind as usize).wrapping_sub(1)).map_or(4, |k| 4 + k.fields.iter().map(|f| f.1).sum::<usize>()) as u64;
+            let room = chance.pick(&[whole, whole, whole, whole, whole - 1, whole - 1, 0, 64, BYTES as u64, BYTES as u64 + 1]);
+            let slot = if chance.one_in(30) { 256 } else { chance.below(256) };
+            let mut call = [7, room, slot, kind, 0, 0, 0, 0];
+            call[4..4 + fields.len()].copy_from_slice(&fields);
+            script.call(call);
+            // what was written is read, whole and cut
+            let end = chance.pick(&[whole, whole, whole + 1, whole + 2, whole + 40, whole - 1, 3, 2, 1]);
+            script.call([6, end, 0, 0, 0, 0, 0, 0]);
+            script.call([6, end, whole, 0, 0, 0, 0, 0]);
+        }
+        3 => script.call([4, chance.pick(&[0, 1, 2, 3, 40, BYTES as u64, 32_768]), chance.pick(&[0x4D, 0x52, 0, 9, 255, 256]), 0, 0, 0, 0, 0]),
+        4 => script.call([5, chance.pick(&[0, 1, 40, BYTES as u64, BYTES as u64 + 1]), chance.pick(&[0, 0x4D, 0x52, 256]), 0, 0, 0, 0, 0]),
+        5 => {
+            // a record that begins inside the bytes
+            let at = 1 + chance.below(40);
+            let kind = chance.below(10);
+            for (i, byte) in [0x4D, 0x52, kind].into_iter().enumerate() {
+                script.call([4, at + i as u64, byte, 0, 0, 0, 0, 0]);
+            }
+            let end = at + chance.pick(&[1, 2, 3, 4, 14, 18, 30]);
+            script.call([6, end, at, 0, 0, 0, 0, 0]);
+        }
+        _ => {
+            let end = chance.pick(&[0, 1, 2, 3, 14, 18, 40, LONGEST as u64, LONGEST as u64 + 1, BYTES as u64, BYTES as u64 + 1]);
+            let place = chance.pick(&[0, 1, 4, end, end + 1, end.saturating_sub(1), end.saturating_sub(3), u64::MAX, 1 << 32]);
+            script.call([6, end, place, 0, 0, 0, 0, 0]);
+        }
+    }
+}
+
+/// Sequence number i of a seed: mostly sensible calls, some wild ones, and at last the records.
+pub fn sequence(seed: u64, i: usize) -> Vec<Call> {
+    let mut chance = Chance::new(seed.wrapping_mul(1_000_003).wrapping_add(i as u64) ^ 0xCA11);
+    let chance = &mut chance;
+    let first = match chance.below(3) {
+        0 => on(TURN, TURN - chance.below(40) as u32),
+        1 => on(HALF, TURN - chance.below(40) as u32),
+        _ => chance.below(TURN.into()) as u32,
+    };
+    let mut script = Script { library: Library::new(), calls: Vec::new() };
+    // one in eight sends so much that its room is full
+    if chance.one_in(8) {
+        let room = chance.pick(&[64, 128]);
+        script.event(20, 0, 1, &[room, first.into(), room, first.into()]);
+        for _ in 0..room + chance.below(2) {
+            script.event(20, 0, 3, &[48 + chance.below(9169)]);
+        }
+        script.call([3, 0, 0, 0, 0, 0, 0, 0]);
+    }
+    for _ in 0..45 {
+        match chance.below(20) {
+            0..=11 => an_event(chance, &mut script, first),
+            12 => script.call([3, chance.pick(&[0, 0, 0, 1, 2, 15, 16, 17, 18, 19, 20, u64::MAX]), 0, 0, 0, 0, 0, 0]),
+            13 if chance.one_in(2) => script.call([2, chance.pick(&[0, 1, 2, 15, 16, 17, 18, 20, 21]), 0, 0, 0, 0, 0, 0]),
+            14 | 15 => {
+                let count = match chance.below(3) {
+                    0 => (1 << 32) - 1 - chance.below(9216),
+                    1 => chance.below((1 << 32) + 9),
+                    _ => chance.pick(&[0, 255, 256, u32::MAX.into(), 1 << 32]),
+                };
+                script.call([8 + chance.below(2), near(chance, first, 64), count, some_size(chance), some_flags(chance), chance.below(1 << 32), 0, 0]);
+            }
+            16..=18 => a_log(chance, &mut script, first),
+            19 if chance.one_in(4) => {
+                let mut call = [0; 8];
+                call.fill_with(|| chance.next() >> chance.below(64));
+                call[0] = chance.pick(&[0, 1, 2, 3, 4, 5, 6, 7, 8, 9, 10, 255, 256, 1 << 32, u64::MAX]);
+                script.call(call);
+            }
+            _ => an_event(chance, &mut script, first),
+        }
+    }
+    for slot in [0, 1, 2, 15, chance.pick(&[3, 14, 16, 17, 18, 19])] {
+        script.call([3, slot, 0, 0, 0, 0, 0, 0]);
+    }
+    script.calls
+}
+
+const _: () = assert!(SLOTS < TABLE);
