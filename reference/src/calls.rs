@@ -421,7 +421,7 @@ impl Script {
 
 /// A PSN near one: on it, close by, at the edges of rooms and of the half; seldom one that is no PSN.
 fn near(chance: &mut Chance, psn: u32, room: u32) -> u64 {
-    if chance.one_in(25) {
+    if chance.one_in(12) {
         return chance.pick(&[TURN.into(), TURN as u64 + 1, u32::MAX.into(), u32::MAX as u64 - 3, TURN as u64 + psn as u64]);
     }
     if chance.one_in(300) {
@@ -541,7 +541,7 @@ fn a_log(chance: &mut Chance, script: &mut Script, first: u32) {
                 fields.iter_mut().zip(psns).filter(|(_, is_psn)| *is_psn).take(1 + chance.below(2) as usize).for_each(|(v, _)| *v = TURN.into());
             }
             let whole = KINDS.get((kind as usize).wrapping_sub(1)).map_or(4, |k| 4 + k.fields.iter().map(|f| f.1).sum::<usize>()) as u64;
-            let room = chance.pick(&[whole, whole, whole, whole, whole - 1, whole - 1, 0, 64, BYTES as u64, BYTES as u64 + 1]);
+            let room = chance.pick(&[whole, whole, whole, whole - 1, whole - 1, whole - 1, 0, 64, BYTES as u64, BYTES as u64 + 1]);
             let slot = if chance.one_in(30) { 256 } else { chance.below(256) };
             let mut call = [7, room, slot, kind, 0, 0, 0, 0];
             call[4..4 + fields.len()].copy_from_slice(&fields);

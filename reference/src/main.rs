@@ -226,9 +226,8 @@ fn compare_calls(from: usize, count: usize, seed: u64, command: &[String]) {
         }
     });
     let reachable = calls::reachable();
-    for what in &reachable {
-        println!("{:7}  {what}", seen.get(what).unwrap_or(&0));
-    }
+    let counts: Vec<String> = reachable.iter().map(|what| format!("{what} ({})", seen.get(what).unwrap_or(&0))).collect();
+    counts.chunks(5).for_each(|row| println!("{}", row.join(", ")));
     if let Some(what) = reachable.iter().find(|what| !seen.contains_key(*what)) {
         fail(format!("no sequence of calls had: {what}"));
     }
