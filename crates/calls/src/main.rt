@@ -14,6 +14,7 @@ use rules::Answer;
 use rules::Arrival;
 use rules::Block;
 use rules::Event;
+use rules::KINDS;
 use rules::LARGEST_ROOM;
 use rules::Opening;
 use rules::Options;
@@ -42,12 +43,17 @@ const SHOWN: usize = 40;
 // Room for the longest line.
 const LINE: usize = 4096;
 
-// The largest numbers of 8, 16 and 32 bits.
+// The most fields that an event has.
+const FIELDS: usize = 4;
+
+// The largest numbers of 8, 16, 32 and 64 bits.
 const MOST_8: u64 = 0xFF;
 
 const MOST_16: u64 = 0xFFFF;
 
 const MOST_32: u64 = 0xFFFF_FFFF;
+
+const MOST_64: u64 = 0xFFFF_FFFF_FFFF_FFFF;
 
 // The table after an event on it, and the answer.
 struct Answered {
@@ -59,18 +65,6 @@ struct Answered {
 struct Kept {
     table: [Connection; TABLE],
     end: usize,
-}
-
-// An event, or none where a number does not fit.
-enum Made {
-    Event(Event),
-    Nothing,
-}
-
-// An arrival, or none where a number does not fit.
-enum Packet {
-    Arrives(Arrival),
-    Nothing,
 }
 
 // A call's numbers.
@@ -120,126 +114,104 @@ fn push_part(out: &mut [u8], at: usize, bytes: &[u8], many: usize) -> usize {
     p
 }
 
-fn arrival(psn: u64, size: u64, flags: u64, entropy: u64) -> Packet {
-    if MOST_32 < psn {
-        return Packet::Nothing;
-    }
-    if MOST_16 < size {
-        return Packet::Nothing;
-    }
-    if MOST_8 < flags {
-        return Packet::Nothing;
-    }
-    if MOST_32 < entropy {
-        return Packet::Nothing;
-    }
-    Packet::Arrives(Arrival {
-        psn: Psn(psn as u32),
-        size: size as u16,
-        flags: flags as u8,
-        entropy: entropy as u32,
-    })
+// The lowest bits of a number.
+fn low_8(v: u64) -> u8 {
+    (v % 0x100) as u8
 }
 
-fn start(send_room: u64, send_psn: u64, receive_room: u64, receive_psn: u64) -> Made {
-    if MOST_16 < send_room {
-        return Made::Nothing;
-    }
-    if MOST_32 < send_psn {
-        return Made::Nothing;
-    }
-    if MOST_16 < receive_room {
-        return Made::Nothing;
-    }
-    if MOST_32 < receive_psn {
-        return Made::Nothing;
-    }
-    let sending = Opening {
-        room: send_room as u16,
-        first: Psn(send_psn as u32),
-    };
-    let receiving = Opening {
-        room: receive_room as u16,
-        first: Psn(receive_psn as u32),
-    };
-    let options = Options {};
-    Made::Event(Event::Start(Start {
-        sending,
-        receiving,
-        options,
-    }))
+fn low_16(v: u64) -> u16 {
+    (v % 0x1_0000) as u16
 }
 
-fn send(size: u64) -> Made {
-    if MOST_16 < size {
-        return Made::Nothing;
-    }
-    Made::Event(Event::Use(Use::Sends(Sending::Send { size: size as u16 })))
+fn low_32(v: u64) -> u32 {
+    (v % 0x1_0000_0000) as u32
 }
 
-fn sack(cack: u64, base: u64, bitmap: u64) -> Made {
-    if MOST_32 < cack {
-        return Made::Nothing;
-    }
-    if MOST_32 < base {
-        return Made::Nothing;
-    }
-    let block = Block {
-        base: Psn(base as u32),
-        bitmap,
-    };
-    Made::Event(Event::Use(Use::Sends(Sending::Sack {
-        cack: Psn(cack as u32),
-        block,
-    })))
-}
-
-fn nack(psn: u64, reason: u64) -> Made {
-    if MOST_32 < psn {
-        return Made::Nothing;
-    }
-    if MOST_8 < reason {
-        return Made::Nothing;
-    }
-    Made::Event(Event::Use(Use::Sends(Sending::Nack {
-        psn: Psn(psn as u32),
-        reason: reason as u8,
-    })))
-}
-
-fn timer(psn: u64) -> Made {
-    if MOST_32 < psn {
-        return Made::Nothing;
-    }
-    Made::Event(Event::Use(Use::Sends(Sending::Timer {
-        psn: Psn(psn as u32),
-    })))
-}
-
-fn arrive(psn: u64, size: u64, flags: u64, entropy: u64) -> Made {
-    match arrival(psn, size, flags, entropy) {
-        Packet::Arrives(a) => Made::Event(Event::Use(Use::Receives(a))),
-        Packet::Nothing => Made::Nothing,
+// The largest number that each field of a kind may be, by its type.
+fn most(kind: u64) -> [u64; FIELDS] {
+    match kind {
+        1 => [MOST_16, MOST_32, MOST_16, MOST_32],
+        3 => [MOST_16, MOST_64, MOST_64, MOST_64],
+        4 => [MOST_32, MOST_16, MOST_8, MOST_32],
+        5 => [MOST_32, MOST_32, MOST_64, MOST_64],
+        6 => [MOST_32, MOST_8, MOST_64, MOST_64],
+        7 => [MOST_32, MOST_64, MOST_64, MOST_64],
+        _ => [MOST_64, MOST_64, MOST_64, MOST_64],
     }
 }
 
-// The event of a kind, c, with a call's fields.
-fn event_of(call: [u64; NUMBERS]) -> Made {
-    let f = call[4];
-    let g = call[5];
-    let h = call[6];
-    let k = call[7];
+// Whether a call has an event: there is its kind, c, and each of its fields fits.
+fn has_event(call: [u64; NUMBERS]) -> bool {
+    let kind = call[3];
+    let most = most(kind);
+    if kind < 1 {
+        return false;
+    }
+    if (KINDS as u64) < kind {
+        return false;
+    }
+    if most[0] < call[4] {
+        return false;
+    }
+    if most[1] < call[5] {
+        return false;
+    }
+    if most[2] < call[6] {
+        return false;
+    }
+    call[7] <= most[3]
+}
+
+fn arrival(psn: u64, size: u64, flags: u64, entropy: u64) -> Arrival {
+    Arrival {
+        psn: Psn(low_32(psn)),
+        size: low_16(size),
+        flags: low_8(flags),
+        entropy: low_32(entropy),
+    }
+}
+
+fn opening(room: u64, first: u64) -> Opening {
+    Opening {
+        room: low_16(room),
+        first: Psn(low_32(first)),
+    }
+}
+
+// The event of the sending side of a kind with these fields.
+fn sending(kind: u64, f: u64, g: u64, h: u64) -> Sending {
+    match kind {
+        3 => Sending::Send { size: low_16(f) },
+        5 => Sending::Sack {
+            cack: Psn(low_32(f)),
+            block: Block {
+                base: Psn(low_32(g)),
+                bitmap: h,
+            },
+        },
+        6 => Sending::Nack {
+            psn: Psn(low_32(f)),
+            reason: low_8(g),
+        },
+        7 => Sending::Timer {
+            psn: Psn(low_32(f)),
+        },
+        _ => Sending::Resend,
+    }
+}
+
+// The event of a call.
+fn event_of(call: [u64; NUMBERS]) -> Event {
     let kind = call[3];
     match kind {
-        1 => start(f, g, h, k),
-        2 => Made::Event(Event::Use(Use::Close)),
-        3 => send(f),
-        4 => arrive(f, g, h, k),
-        5 => sack(f, g, h),
-        6 => nack(f, g),
-        7 => timer(f),
-        8 => Made::Event(Event::Use(Use::Sends(Sending::Resend))),
-        _ => Made::Nothing,
+        1 => Event::Start(Start {
+            sending: opening(call[4], call[5]),
+            receiving: opening(call[6], call[7]),
+            options: Options {},
+        }),
+        2 => Event::Use(Use::Close),
+        4 => Event::Use(Use::Receives(arrival(call[4], call[5], call[6], call[7]))),
+        _ => Event::Use(Use::Sends(sending(kind, call[4], call[5], call[6]))),
     }
 }
 
@@ -375,20 +347,18 @@ fn event_call(table: [Connection; TABLE], call: [u64; NUMBERS], out: &mut [u8], 
             end: unknown(out, at),
         };
     }
-    match event_of(call) {
-        Made::Event(event) => {
-            let done = on(table, lent, slot, event);
-            let answer = done.answer;
-            let after = done.table;
-            Kept {
-                table: after,
-                end: push_answer(out, at, answer),
-            }
-        }
-        Made::Nothing => Kept {
+    if !has_event(call) {
+        return Kept {
             table,
             end: unknown(out, at),
-        },
+        };
+    }
+    let done = on(table, lent, slot, event_of(call));
+    let answer = done.answer;
+    let after = done.table;
+    Kept {
+        table: after,
+        end: push_answer(out, at, answer),
     }
 }
 
@@ -477,7 +447,7 @@ fn poke_call(bytes: &mut [u8], call: [u64; NUMBERS], out: &mut [u8], at: usize) 
     if MOST_8 < b {
         return unknown(out, at);
     }
-    bytes[i] = b as u8;
+    bytes[i] = low_8(b);
     at
 }
 
@@ -493,7 +463,7 @@ fn fill_call(bytes: &mut [u8], call: [u64; NUMBERS], out: &mut [u8], at: usize) 
     }
     let mut i: usize = 0;
     while i < n {
-        bytes[i] = b as u8;
+        bytes[i] = low_8(b);
         i += 1;
     }
     at
@@ -565,10 +535,10 @@ fn write_call(bytes: &mut [u8], call: [u64; NUMBERS], out: &mut [u8], at: usize)
     if MOST_8 < slot {
         return unknown(out, at);
     }
-    match event_of(call) {
-        Made::Event(event) => push_written(out, at, &mut bytes[..n], slot as u8, event),
-        Made::Nothing => unknown(out, at),
+    if !has_event(call) {
+        return unknown(out, at);
     }
+    push_written(out, at, &mut bytes[..n], low_8(slot), event_of(call))
 }
 
 // An arrival at a receiver by value.
@@ -636,14 +606,14 @@ fn push_counted(out: &mut [u8], at: usize, a: Arrival, count: u32, lent: bool) -
 
 // Ops 8 and 9: a receiver started at packet number a, its count set to b, and an arrival of a with size c, flags and entropy.
 fn arrive_call(call: [u64; NUMBERS], out: &mut [u8], at: usize, lent: bool) -> usize {
-    let count = call[2];
-    if MOST_32 < count {
+    if !has_event([1, 0, 0, 4, call[1], call[3], call[4], call[5]]) {
         return unknown(out, at);
     }
-    match arrival(call[1], call[3], call[4], call[5]) {
-        Packet::Arrives(a) => push_counted(out, at, a, count as u32, lent),
-        Packet::Nothing => unknown(out, at),
+    if MOST_32 < call[2] {
+        return unknown(out, at);
     }
+    let a = arrival(call[1], call[3], call[4], call[5]);
+    push_counted(out, at, a, low_32(call[2]), lent)
 }
 
 // A call that leaves the table as it is.

@@ -39,8 +39,8 @@ returns-2 c = search needs
 loop-holds : tie.Need-loop-holds Inv-loop μ-loop
 loop-holds c = search needs
 
-cast-bytes : tie.Need-cast-bytes Inv-loop μ-loop
-cast-bytes c = search needs
+low-8-requires : tie.Need-low-8-requires Inv-loop μ-loop
+low-8-requires c κs = search needs
 
 slice-write-bytes : tie.Need-slice-write-bytes Inv-loop μ-loop
 slice-write-bytes c = search needs
@@ -75,7 +75,7 @@ fill-call-spec =
     same-length-2
     returns-2
     loop-holds
-    cast-bytes
+    low-8-requires
     slice-write-bytes
     add-i
     loop-less

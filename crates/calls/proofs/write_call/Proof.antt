@@ -30,26 +30,8 @@ same-length-2 c = search needs
 returns-2 : tie.Need-returns-2
 returns-2 c = search needs
 
-event-of-requires : tie.Need-event-of-requires
-event-of-requires c κs = search needs
-
-enum-known-event : tie.Need-enum-known-event
-enum-known-event c = search needs
-
-slice-relend-prefix-push-written : tie.Need-slice-relend-prefix-push-written
-slice-relend-prefix-push-written c = search needs
-
-slice-aggregate-push-written : tie.Need-slice-aggregate-push-written
-slice-aggregate-push-written c = sym (length-take-le _ _ (omega arith))
-
-cast-push-written : tie.Need-cast-push-written
-cast-push-written c = search needs
-
-push-written-requires : tie.Need-push-written-requires
-push-written-requires c κs = search needs
-
-enum-told : tie.Need-enum-told
-enum-told c = search needs
+has-event-requires : tie.Need-has-event-requires
+has-event-requires c κs = search needs
 
 unknown-requires-3 : tie.Need-unknown-requires-3
 unknown-requires-3 c κs = search needs
@@ -57,11 +39,26 @@ unknown-requires-3 c κs = search needs
 same-length-3 : tie.Need-same-length-3
 same-length-3 c = search needs
 
-same-length-4 : tie.Need-same-length-4
-same-length-4 c = search needs
-
 returns-3 : tie.Need-returns-3
 returns-3 c = search needs
+
+slice-relend-prefix-push-written : tie.Need-slice-relend-prefix-push-written
+slice-relend-prefix-push-written c = search needs
+
+slice-aggregate-push-written : tie.Need-slice-aggregate-push-written
+slice-aggregate-push-written c = sym (length-take-le _ _ (omega arith))
+
+low-8-requires : tie.Need-low-8-requires
+low-8-requires c κs = search needs
+
+event-of-requires : tie.Need-event-of-requires
+event-of-requires c κs = search needs
+
+push-written-requires : tie.Need-push-written-requires
+push-written-requires c κs = search needs
+
+same-length-4 : tie.Need-same-length-4
+same-length-4 c = search needs
 
 same-length-5 : tie.Need-same-length-5
 same-length-5 c = search needs
@@ -81,16 +78,15 @@ write-call-spec =
     unknown-requires-2
     same-length-2
     returns-2
-    event-of-requires
-    enum-known-event
-    slice-relend-prefix-push-written
-    slice-aggregate-push-written
-    cast-push-written
-    push-written-requires
-    enum-told
+    has-event-requires
     unknown-requires-3
     same-length-3
-    same-length-4
     returns-3
+    slice-relend-prefix-push-written
+    slice-aggregate-push-written
+    low-8-requires
+    event-of-requires
+    push-written-requires
+    same-length-4
     same-length-5
     returns-4)
