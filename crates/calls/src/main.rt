@@ -1,7 +1,6 @@
 // The library by calls: reads calls from standard input and answers each with a line of numbers, so that what no log shows can be compared too. A
 // call is eight numbers of 8 bytes, big-endian: the op, a, b, c and four fields. One that is out of this program's own range is answered by its op
 // and a question mark, and changes nothing. The program keeps a table of 20 slots and 33,000 bytes for logs.
-ghost use mathlib.Core.Path.{_≡_};
 ghost use Prim.Native.Nat.{_≤_};
 ghost use Rattle.receiving.specs.Lent.{Started};
 ghost use Rattle.receiver.specs.Record.{lent-of, Sound};

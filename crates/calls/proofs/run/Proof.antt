@@ -9,7 +9,8 @@ use Rattle.calls.proofs.run.Statement.{statement}
 use Rattle.calls.proofs.run.Tie as tie
 
 abbrev Inv-loop : tie.InvT-loop
-Inv-loop bytes₀ out₀ table₀ input₀ left₀ bytes out table input left = (length bytes ≡ length bytes₀) × ((length out ≡ length out₀) × ((length input ≡ 64) × AllSound table))
+Inv-loop bytes₀ out₀ table₀ input₀ left₀ bytes out table input left =
+    (length bytes ≡ length bytes₀) × ((length out ≡ length out₀) × ((length input ≡ 64) × AllSound table))
 
 abbrev μ-loop : tie.MeasureT-loop
 μ-loop bytes₀ out₀ table₀ input₀ left₀ bytes out table input left = left
@@ -54,7 +55,9 @@ loop-less : tie.Need-loop-less Inv-loop μ-loop
 loop-less c = search needs
 
 loop-again : tie.Need-loop-again Inv-loop μ-loop
-loop-again c = (search needs, (search needs, (search needs, c .before .before .before .before .before .before .before .before .before .before .before .any-call .ensures)))
+loop-again c =
+    let answered = c .before .before .before .before .before .before .before .before .before .before .before in
+    (search needs, (search needs, (search needs, answered .any-call .ensures)))
 
 same-length-3 : tie.Need-same-length-3 Inv-loop μ-loop
 same-length-3 c = search needs
