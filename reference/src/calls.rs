@@ -229,7 +229,9 @@ fn read(log: &[u8], place: u64, seen: &mut Seen) -> Vec<u64> {
             saw(seen, format!("read a {} record", KINDS[record.kind - 1].name));
             saw(seen, format!("read a record {class}"));
             let kind = record.kind as u64;
-            [&[0, kind, *next as u64, record.slot.into(), kind], &record.fields[..]].concat()
+            let mut fields = record.fields.clone();
+            fields.resize(4, 0);
+            [&[0, kind, *next as u64, record.slot.into(), kind], &fields[..]].concat()
         }
         Ok(None) => {
             saw(seen, format!("read {class}"));

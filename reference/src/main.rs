@@ -4,15 +4,15 @@
 //!     reference show < LOG                          a log in words, a record a line
 //!     reference make < WORDS > LOG                  a log from such words
 //!     reference compare FROM COUNT SEED COMMAND..   has the command replay logs and compares the text
-//!     reference cases FOLDER COMMAND..              the same for NAME.words with the text in NAME.text
+//!     reference cases FOLDER N COMMAND..            the same for NAME.words with the text in NAME.text, N of them or more
 //!     reference log SEED NUMBER > LOG               one of compare's logs
 //!     reference calls FROM COUNT SEED COMMAND..     has the command answer sequences of calls and compares the lines
-//!     reference call-cases FOLDER COMMAND..         the same for NAME.calls, which has the lines beside the calls
+//!     reference call-cases FOLDER N COMMAND..       the same for NAME.calls, which has the lines beside the calls
 //!     reference call SEED NUMBER > CALLS            one of calls' sequences
 //!     reference answer < CALLS                      the lines for a sequence
 //!     reference make-calls < NAME.calls > CALLS     the calls of such a file
 //!
-//! compare and calls fail where fewer than N are asked for if `--at-least N` stands before the command.
+//! compare and calls fail where something that can be reached was not, so too few do not pass.
 
 mod calls;
 mod generate;
@@ -252,21 +252,21 @@ fn call_script(text: &str) -> Vec<(calls::Call, String)> {
     out
 }
 
-/// The names in a folder that have an ending.
-fn names(folder: &str, ending: &str) -> Vec<String> {
+/// The names in a folder that have an ending, so many or more.
+fn names(folder: &str, ending: &str, least: usize) -> Vec<String> {
     let mut names: Vec<_> = std::fs::read_dir(folder)
         .unwrap_or_else(|e| fail(format!("{folder}: {e}")))
         .filter_map(|entry| entry.ok()?.path().file_name()?.to_str()?.strip_suffix(ending).map(String::from))
         .collect();
     names.sort();
-    if names.is_empty() {
-        fail(format!("{folder} has no case"));
+    if names.len() < least {
+        fail(format!("{folder} has {} cases {ending}, of at least {least}", names.len()));
     }
     names
 }
 
-fn call_cases(folder: &str, command: &[String]) {
-    let names = names(folder, ".calls");
+fn call_cases(folder: &str, least: usize, command: &[String]) {
+    let names = names(folder, ".calls", least);
     for name in &names {
         let text = std::fs::read_to_string(format!("{folder}/{name}.calls")).unwrap_or_else(|e| fail(format!("{name}.calls: {e}")));
         let (sequence, lines): (Vec<calls::Call>, Vec<String>) = call_script(&text).into_iter().unzip();
@@ -279,11 +279,11 @@ fn call_cases(folder: &str, command: &[String]) {
             }
         }
     }
-    println!("call-cases: {} with the expected lines: {}", names.len(), names.join(" "));
+    println!("call-cases: {}, of at least {least}, with the expected lines: {}", names.len(), names.join(" "));
 }
 
-fn cases(folder: &str, command: &[String]) {
-    let names = names(folder, ".words");
+fn cases(folder: &str, least: usize, command: &[String]) {
+    let names = names(folder, ".words", least);
     for name in &names {
         let read = |ending: &str| std::fs::read_to_string(format!("{folder}/{name}.{ending}")).unwrap_or_else(|e| fail(format!("{name}.{ending}: {e}")));
         let log = bytes(&read("words"));
@@ -296,28 +296,11 @@ fn cases(folder: &str, command: &[String]) {
             fail(format!("case {name}: the reference itself gives another text"));
         }
     }
-    println!("cases: {} with the expected text: {}", names.len(), names.join(" "));
+    println!("cases: {}, of at least {least}, with the expected text: {}", names.len(), names.join(" "));
 }
 
 fn number(s: &str) -> u64 {
     s.parse().unwrap_or_else(|_| fail(format!("{s} is no number")))
-}
-
-/// How many are asked for, which must not be fewer than `--at-least` says.
-fn floor(count: &str, args: &[String]) -> usize {
-    if args[4] == "--at-least" && number(count) < number(args.get(5).map_or("", |n| n)) {
-        fail(format!("{count} are asked for, fewer than {}", args[5]));
-    }
-    number(count) as usize
-}
-
-/// The command of compare and calls.
-fn command(args: &[String]) -> &[String] {
-    let from = if args[4] == "--at-least" { 6 } else { 4 };
-    if args.len() <= from {
-        fail("no command".into());
-    }
-    &args[from..]
 }
 
 fn from_bytes(bytes: &[u8]) -> Vec<calls::Call> {
@@ -334,18 +317,18 @@ fn main() {
         ["show"] => output(words(&input()).as_bytes()),
         ["make"] => output(&bytes(&String::from_utf8_lossy(&input()))),
         ["log", seed, i] => output(&generate::log(number(seed), number(i) as usize)),
-        ["compare", from, count, seed, _, ..] => compare(number(from) as usize, floor(count, &args), number(seed), command(&args)),
-        ["cases", folder, _, ..] => cases(folder, &args[2..]),
-        ["calls", from, count, seed, _, ..] => compare_calls(number(from) as usize, floor(count, &args), number(seed), command(&args)),
-        ["call-cases", folder, _, ..] => call_cases(folder, &args[2..]),
+        ["compare", from, count, seed, _, ..] => compare(number(from) as usize, number(count) as usize, number(seed), &args[4..]),
+        ["cases", folder, least, _, ..] => cases(folder, number(least) as usize, &args[3..]),
+        ["calls", from, count, seed, _, ..] => compare_calls(number(from) as usize, number(count) as usize, number(seed), &args[4..]),
+        ["call-cases", folder, least, _, ..] => call_cases(folder, number(least) as usize, &args[3..]),
         ["call", seed, i] => output(&calls::bytes(&calls::sequence(number(seed), number(i) as usize))),
         ["answer"] => output(answers(&from_bytes(&input()), &mut calls::Seen::new()).as_bytes()),
         ["make-calls"] => {
             let sequence: Vec<calls::Call> = call_script(&String::from_utf8_lossy(&input())).into_iter().map(|pair| pair.0).collect();
             output(&calls::bytes(&sequence));
         }
-        _ => fail("usage: replay | show | make | log SEED NUMBER | compare FROM COUNT SEED [--at-least N] COMMAND.. | cases FOLDER COMMAND.. | \
-            calls FROM COUNT SEED [--at-least N] COMMAND.. | call-cases FOLDER COMMAND.. | call SEED NUMBER | answer | make-calls"
+        _ => fail("usage: replay | show | make | log SEED NUMBER | compare FROM COUNT SEED COMMAND.. | cases FOLDER N COMMAND.. | \
+            calls FROM COUNT SEED COMMAND.. | call-cases FOLDER N COMMAND.. | call SEED NUMBER | answer | make-calls"
             .into()),
     }
 }

@@ -2,10 +2,11 @@
 // call is eight numbers of 8 bytes, big-endian: the op, a, b, c and four fields. One that is out of this program's own range is answered by its op
 // and a question mark, and changes nothing. The program keeps a table of 20 slots and 33,000 bytes for logs.
 ghost use Prim.Native.Nat.{_≤_};
-ghost use Rattle.receiving.specs.Lent.{Started};
+ghost use Rattle.receiving.specs.Lent.{Sound as SoundLent};
 ghost use Rattle.receiver.specs.Record.{lent-of, Sound};
 ghost use Rattle.table.specs.Slots.{AllSound};
 use connection::Connection;
+use kinds::FIELDS;
 use psn::Psn;
 use receiver::Receiver;
 use receiving::Head;
@@ -41,9 +42,6 @@ const SHOWN: usize = 40;
 
 // Room for the longest line.
 const LINE: usize = 4096;
-
-// The most fields that an event has.
-const FIELDS: usize = 4;
 
 // The largest numbers of 8, 16, 32 and 64 bits.
 const MOST_8: u64 = 0xFF;
@@ -214,57 +212,11 @@ fn event_of(call: [u64; NUMBERS]) -> Event {
     }
 }
 
-// Puts an event: its kind and its fields.
+// Puts an event: its kind and its fields, 0 past the last.
 fn push_event(out: &mut [u8], at: usize, event: Event) -> usize {
-    match event {
-        Event::Start(s) => {
-            let all = [
-                1,
-                s.sending.room as u64,
-                s.sending.first.0 as u64,
-                s.receiving.room as u64,
-                s.receiving.first.0 as u64,
-            ];
-            push_all(out, at, &all, 5)
-        }
-        Event::Use(u) => match u {
-            Use::Close => lines::push_next(out, at, 2),
-            Use::Receives(a) => {
-                let all = [
-                    4,
-                    a.psn.0 as u64,
-                    a.size as u64,
-                    a.flags as u64,
-                    a.entropy as u64,
-                ];
-                push_all(out, at, &all, 5)
-            }
-            Use::Sends(s) => push_sending(out, at, s),
-        },
-    }
-}
-
-// Puts an event of the sending side.
-fn push_sending(out: &mut [u8], at: usize, event: Sending) -> usize {
-    match event {
-        Sending::Send { size } => {
-            let all = [3, size as u64];
-            push_all(out, at, &all, 2)
-        }
-        Sending::Sack { cack, block } => {
-            let all = [5, cack.0 as u64, block.base.0 as u64, block.bitmap];
-            push_all(out, at, &all, 4)
-        }
-        Sending::Nack { psn, reason } => {
-            let all = [6, psn.0 as u64, reason as u64];
-            push_all(out, at, &all, 3)
-        }
-        Sending::Timer { psn } => {
-            let all = [7, psn.0 as u64];
-            push_all(out, at, &all, 2)
-        }
-        Sending::Resend => lines::push_next(out, at, 8),
-    }
+    let values = kinds::values(event);
+    let p = lines::push_next(out, at, kinds::kind(event) as u64);
+    push_all(out, p, &values, FIELDS)
 }
 
 // The kind that was answered, 0 beside a refusal.
@@ -553,7 +505,7 @@ fn push_arrived(out: &mut [u8], at: usize, r: Receiver, a: Arrival) -> usize
 
 // The same at a receiver's head over lent words.
 fn push_lent(out: &mut [u8], at: usize, r: Receiver, a: Arrival) -> usize
-    requires { ⌜ Started (lent-of r) ⌝ }
+    requires { ⌜ SoundLent (lent-of r) ⌝ }
 {
     let expected = r.expected;
     let mut words = r.words;

@@ -111,7 +111,7 @@ abbrev At : {M : Type 1} (𝓤 : URA M) (H : Heap 𝓤) (A : Atoms 𝓤) (mem : 
 At 𝓤 H A mem run = tripleOf 𝓤 H A event′.signature (event′.spec 𝓤 H A mem run)
 
 said-sound : (t : List Connection) (n : ℕ) (e : Event) (a : Answer) (u : List Connection) → On t n e a u → AllSound u
-said-sound t n e a u m = m .sound
+said-sound t n e a u m = m .meets .sound
 
 module _ {M : Type 1} (𝓤 : URA M) (H : Heap 𝓤) (A : Atoms 𝓤) (W : Given 𝓤 H A) (at-mem : Memory → SProp 𝓤) (run : Routine → Fun 𝓤)
     (xs : List Connection) (k n : ℕ) (e : Event) (is-t : Is RA xs (arr xs ∷ [])) (k-fits : k < 2 ^ 64) (n-fits : n < 2 ^ 64)

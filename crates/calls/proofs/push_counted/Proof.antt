@@ -38,7 +38,7 @@ returns c = search needs
 push-lent-requires : tie.Need-push-lent-requires
 push-lent-requires c κs =
     let used = c .before .before in
-    counted _ _ (used .before .before .before .before .start .ensures .sound) (used .if1 .left)
+    inr (counted _ _ (used .before .before .before .before .start .ensures .sound) (used .if1 .left))
 
 same-length-2 : tie.Need-same-length-2
 same-length-2 c = search needs
