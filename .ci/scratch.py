@@ -9,7 +9,7 @@ top = pathlib.Path.cwd()
 words = re.compile(r"(file|old|new|do|call|right|wrong|claims|use|term):( |$)")
 
 # events on the bench's connection, one after the other: the number of the last answer, and a value of its line
-helpers = """use mathlib.Core.Path.{_≡_, refl}
+words_of_terms = """use mathlib.Core.Path.{_≡_, refl}
 use mathlib.Core.List.{List, [], _∷_, map}
 use Prim.Native.Nat.{ℕ}
 use lib.ListN.{length, getD, replicate}
@@ -101,9 +101,10 @@ def check(work, *names):
 
 def claim(work, claims):
     """The module of the scratch rules that claims what each term computes to: (name, lines, value) each."""
-    text = "-- What some terms compute to.\n" + helpers
+    text = "-- What some terms compute to.\n" + words_of_terms
     uses = sorted({use for _, lines, _ in claims for key, use in lines if key == "use"})
     text = "".join(f"use {use}\n" for use in uses) + text
     for name, lines, value in claims:
-        text += f"{name.replace('_', '-')} : {first(lines, 'term')} ≡ {value}\nunfolding rules lines bench last answer-to\n{name.replace('_', '-')} = refl\n\n"
+        named = name.replace("_", "-")
+        text += f"{named} : {first(lines, 'term')} ≡ {value}\nunfolding rules lines bench last answer-to\n{named} = refl\n\n"
     (work / "crates/rules/proofs/Witness.antt").write_text(text)
