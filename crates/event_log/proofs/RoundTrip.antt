@@ -7,7 +7,7 @@ use lib.ListN.{length, take, drop, length-drop}
 use lib.Seq.{length-take-le, drop-at, drop-drop, take-add}
 use Rattle.rules.specs.Numbers.{longest-log}
 use Rattle.fields.specs.Fields.{Bytes}
-use Rattle.rules.specs.Kinds.{kind-of}
+use Rattle.rules.specs.Kinds.{kind-of, Wide}
 use Rattle.rules.specs.Paper.{read-line}
 use Rattle.rules.specs.Log.{encode, read, body, write, written}
 use Rattle.rules.specs.declared.Event.{Event}
@@ -15,7 +15,6 @@ use Rattle.rules.specs.declared.Read.{Read}
 use Rattle.rules.specs.declared.Read.the-variants.{Record}
 use Rattle.rules.specs.declared.Written.{Written}
 use Rattle.rules.specs.declared.Written.the-variants.{Length}
-use Rattle.rules.proofs.Records.{Wide}
 use Rattle.rules.proofs.RoundTrip.{write-read, read-kind, read-encode, read-write}
 use Rattle.rules.proofs.Apart.{reads-apart, writes-apart}
 use Rattle.event_log.specs.Parts.{Writes}

@@ -1,11 +1,13 @@
 -- From a function's early returns to its rule's list of refusals: the tests before the i-th were passed by, one after the other, and the
 -- i-th refuses, or none is left. By the list. Assumes nothing.
-use mathlib.Core.Path.{_≡_, refl}
+use mathlib.Core.Path.{_≡_, refl, ap}
 use mathlib.Core.Bool.{Bool, true, false, cond}
-use mathlib.Core.List.{[], _∷_}
+use mathlib.Core.List.{[], _∷_, _++_}
+use mathlib.Core.Logic.{_⊎_, inl, inr}
 use Prim.Native.Nat.{ℕ, zero, suc}
 use lib.ListN.{length}
-use Rattle.promise.specs.Outcome.{Outcome, Refused, Refusals, unless}
+use Rattle.promise.specs.Line.{Line}
+use Rattle.promise.specs.Outcome.{Outcome, Refused, Refusals, unless, first-of, on-paper}
 
 -- whether the i-th test passes, and the number of its refusal
 unfoldable pub test : Refusals → ℕ → Bool
@@ -54,3 +56,31 @@ module _ {A S : Type 0} where
       by : (b : Bool) → P (Refused (t .1)) → (b ≡ false → P (unless l o)) → P (cond b (Refused (t .1)) (unless l o))
       by true p q = p
       by false p q = q refl
+
+  -- two lists one after the other are one
+  pub unless-both : (l m : Refusals) (o : Outcome A S) → unless (l ++ m) o ≡ unless l (unless m o)
+  unfolding unless
+  unless-both [] m o = refl
+  unless-both (t ∷ l) m o = ap (cond (t .0) (Refused (t .1))) (unless-both l m o)
+
+  -- one of the tests refuses, or what is done otherwise is done
+  pub refused-or : (l : Refusals) (o : Outcome A S) → ((n : ℕ) × (unless l o ≡ Refused n)) ⊎ (unless l o ≡ o)
+  unfolding unless
+  refused-or [] o = inr refl
+  refused-or (t ∷ l) o = by (t .0) (refused-or l o)
+    where
+      by : (b : Bool) → ((n : ℕ) × (unless l o ≡ Refused n)) ⊎ (unless l o ≡ o)
+          → ((n : ℕ) × (cond b (Refused (t .1)) (unless l o) ≡ Refused n)) ⊎ (cond b (Refused (t .1)) (unless l o) ≡ o)
+      by true h = inl (t .1, refl)
+      by false h = h
+
+  -- the number on paper is that of the first whose test passes, where what is done otherwise has none
+  pub first-refuses : (line : A → Line) (l : Refusals) (o : Outcome A S) → on-paper line o .number ≡ 0 → on-paper line (unless l o) .number ≡ first-of l
+  unfolding unless first-of on-paper
+  first-refuses line [] o h = h
+  first-refuses line (t ∷ l) o h = by (t .0) (first-refuses line l o h)
+    where
+      by : (b : Bool) → on-paper line (unless l o) .number ≡ first-of l
+          → on-paper line (cond b (Refused (t .1)) (unless l o)) .number ≡ cond b (t .1) (first-of l)
+      by true e = refl
+      by false e = e

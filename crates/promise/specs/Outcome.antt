@@ -18,6 +18,11 @@ unfoldable pub unless : {A S : Type 0} → Refusals → Outcome A S → Outcome 
 unless [] o = o
 unless (r ∷ l) o = cond (r .0) (Refused (r .1)) (unless l o)
 
+-- the number of the first whose test passes; where none does, "0 is done"
+unfoldable pub first-of : Refusals → ℕ
+first-of [] = 0
+first-of (r ∷ l) = cond (r .0) (r .1) (first-of l)
+
 -- "records .. keep their contents": the record after an event on x
 unfoldable pub left : {A S : Type 0} → S → Outcome A S → S
 left x (Refused n) = x

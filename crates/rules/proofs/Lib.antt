@@ -19,3 +19,4 @@ pub mod RoundTrip
 pub mod Replays
 pub mod Apart
 pub mod Settled
+pub mod Numbered

@@ -6,11 +6,11 @@ use Prim.Native.Nat.{ℕ, _≤_}
 use native.Mathlib.Omega.{arith}
 use lib.ListN.{length, take, drop, length-append, length-drop, length-map}
 use lib.Seq.{take-append-add}
-use Rattle.fields.specs.Fields.{Bytes, Fits, size}
+use Rattle.fields.specs.Fields.{Bytes, size}
 use Rattle.fields.specs.Fields as fields
 use Rattle.fields.proofs.Spelling.{bytes-drop}
 use Rattle.fields.proofs.RoundTrip as round-trip
-use Rattle.rules.specs.Kinds.{kind-of, fields-of, event-of, layout, width, widths, event-widths, kind-ok}
+use Rattle.rules.specs.Kinds.{kind-of, fields-of, event-of, layout, width, widths, event-widths, Wide, kind-ok}
 use Rattle.rules.specs.Log.{whole, encode, high-psn}
 use Rattle.rules.specs.declared.Event.{Event}
 use Rattle.rules.proofs.EventKinds.{known-kind, event-again, kind-again, fields-again}
@@ -28,10 +28,6 @@ pub record Begins (l : List ℕ) (slot : ℕ) (e : Event) (kind : ℕ) : Type 0 
 pub length-encode : (slot : ℕ) (e : Event) → length (encode slot e) ≡ whole (kind-of e)
 unfolding encode
 length-encode slot e = simp round-trip.length-encode (omega arith)
-
--- "An event .. has only its fields, in the width given here, but PSNs have 32 bits"
-abbrev pub Wide : Event → Type 0
-Wide e = Fits (event-widths (kind-of e)) (fields-of e)
 
 abbrev pub Low : Event → Type 0
 Low e = high-psn (layout (kind-of e)) (fields-of e) ≡ false

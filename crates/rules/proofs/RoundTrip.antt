@@ -8,12 +8,12 @@ use lib.Seq.{drop-append-seam}
 use Rattle.rules.specs.Numbers.{longest-log}
 use Rattle.fields.specs.Fields.{Bytes}
 use Rattle.fields.proofs.Spelling.{bytes-drop}
-use Rattle.rules.specs.Kinds.{kind-of}
+use Rattle.rules.specs.Kinds.{kind-of, Wide}
 use Rattle.rules.specs.Log.{whole, encode, read, write, written}
 use Rattle.rules.specs.declared.Event.{Event}
 use Rattle.rules.specs.declared.Read.the-variants.{Record}
 use Rattle.rules.specs.declared.Written.the-variants as writing
-use Rattle.rules.proofs.Records.{Wide, length-encode, encode-begins, begins-kind, begins-wide, begins-low, begins-encode}
+use Rattle.rules.proofs.Records.{length-encode, encode-begins, begins-kind, begins-wide, begins-low, begins-encode}
 use Rattle.rules.proofs.Reading.{read-holds, holds-read}
 use Rattle.rules.proofs.Writing.{write-writable, writable-write}
 

@@ -2,7 +2,7 @@
 use Rattle.word.specs.Word.{bit-at}
 use Rattle.rules.specs.Numbers.{after, distance, room-ok, size-ok, flags-ok, reason-ok}
 use Rattle.lists.specs.Lists.{lead, slide, pack, any, sum, update}
-use Rattle.promise.specs.Outcome.{unless, left, within}
+use Rattle.promise.specs.Outcome.{unless, first-of, left, within}
 use Rattle.fields.specs.Fields.{number, spell, joined, parted}
 use Rattle.fields.specs.Fields as fields
 use Rattle.rules.specs.Receiver as receiver
@@ -16,12 +16,13 @@ use Rattle.rules.specs.Table.{outside, taken-refusals, in-slot, on-refus
 use Rattle.rules.specs.Kinds.{kind-of, fields-of, event-of, layouts, layout, width, event-width, widths, event-widths}
 use Rattle.rules.specs.Paper.{code, paper, answered, read-line, written-line}
 use Rattle.rules.specs.Log.{encode, read-left, read, high-cell, high-psn, write, written}
+use Rattle.rules.specs.Refusals.{use-refusals, event-refusals, read-refusals, write-refusals}
 use Rattle.rules.specs.Replay.{line, stop, then, replied, replay-from, replay}
 
 unfoldable pub rules : Unit {0}
 unfolding bit-at after distance room-ok size-ok flags-ok reason-ok
     lead slide pack any sum update
-    unless left within
+    unless first-of left within
     number spell joined parted fields.encode fields.decode
     receiver.fresh receiver.start-refusals receiver.start receiver.judge receiver.known receiver.beyond receiver.verdict receiver.accept
     receiver.block-at receiver.block receiver.sack-of receiver.reason-of receiver.nack-of receiver.judged
@@ -37,5 +38,6 @@ unfolding bit-at after distance room-ok size-ok flags-ok reason-ok
     kind-of fields-of event-of layouts layout width event-width widths event-widths
     code paper answered read-line written-line
     encode read-left read high-cell high-psn write written
+    use-refusals event-refusals read-refusals write-refusals
     line stop then replied replay-from replay
 rules = tt

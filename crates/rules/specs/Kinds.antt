@@ -5,6 +5,7 @@ use mathlib.Core.List.{List, [], _∷_, map}
 use Prim.Native.Nat.{ℕ}
 use lib.Dec.{leb, ltb}
 use lib.ListN.{length, getD}
+use Rattle.fields.specs.Fields.{Fits}
 use Rattle.rules.specs.Numbers.{psn}
 use Rattle.rules.specs.declared.Options.{Options}
 use Rattle.rules.specs.declared.Sending.the-variants as sending
@@ -96,3 +97,7 @@ widths k = map width (layout k)
 
 unfoldable pub event-widths : ℕ → List ℕ
 event-widths k = map event-width (layout k)
+
+-- what the types of the code hold an event to: each field fits its width
+abbrev pub Wide : Event → Type 0
+Wide e = Fits (event-widths (kind-of e)) (fields-of e)

@@ -12,5 +12,6 @@ pub mod Kept
 pub mod Kinds
 pub mod Paper
 pub mod Log
+pub mod Refusals
 pub mod Replay
 pub mod Bench
