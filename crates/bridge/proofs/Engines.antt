@@ -1,6 +1,5 @@
 -- The engines by value follow the rules: each answer is the rule's, and each record means the rule's next. Assumes nothing.
 use mathlib.Core.Path.{_≡_, refl, ap, _∙_}
-use Prim.Native.Nat.{ℕ}
 use Rattle.promise.specs.Outcome.{Outcome, left}
 use Rattle.promise.specs.Promise.{Meets}
 use Rattle.rules.specs.Paper.{paper, answered}
@@ -10,7 +9,7 @@ use Rattle.sender.specs.Record as sender
 use Rattle.receiver.specs.Record as receiver
 use Rattle.delivery.specs.Rules.{Gives, given, rules}
 use Rattle.delivery.proofs.Begins.{sender-begins, receiver-begins}
-use Rattle.delivery.proofs.Following.{Follows, Following, keeps}
+use Rattle.delivery.proofs.Following.{Follows, keeps}
 use Rattle.bridge.specs.Engines.{engines, EnginesKeep}
 
 -- the rule's own answer and record

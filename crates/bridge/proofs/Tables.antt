@@ -28,7 +28,7 @@ use Rattle.receiver.specs.Record as receiver
 use Rattle.table.specs.Slots.{On, meaning}
 use Rattle.table.proofs.Slots.{at-means}
 use Rattle.delivery.specs.Rules.{Gives, rules}
-use Rattle.delivery.proofs.Following.{Follows, Following, keeps}
+use Rattle.delivery.proofs.Following.{Follows, keeps}
 use Rattle.bridge.specs.Tables.{sending-in, receiving-in, sending-opens, receiving-opens, Started, Sending, sends, Receiving, receives, Else}
 use Rattle.bridge.specs.Tables.{tables, TablesKeep}
 use Rattle.bridge.proofs.Engines.{gives}

@@ -18,7 +18,7 @@ use Rattle.delivery.proofs.Invariant.{Inv, invariant}
 use Rattle.delivery.proofs.Retires.{Grows, grows-self, grows-on, grows-next, retires}
 use Rattle.delivery.proofs.Brings.{brings-sack}
 use Rattle.delivery.proofs.Tries.{marks, hands-out, mark-next}
-use Rattle.delivery.proofs.Theorem.{demand-3}
+use Rattle.delivery.proofs.Theorem.{delivers}
 
 module _ {s : Start} (c : Course s) where
   -- each moment of a course is reached by a run
@@ -144,7 +144,7 @@ settles s c diligent fair t same =
           let sent : c .at v .sent ≡ c .at t .sent = same v (omega (arith, E .1)) in
           let K = inv-at c v .keeps in
           let none : outstanding (c .at v .sending) ≡ 0 = omega (arith, K .next-is, E .2 v h, ap length sent) in
-          let P = demand-3 s (c .at v) (run-to c v) in
+          let P = delivers s (c .at v) (run-to c v) in
           let end : (c .at v .sending ≡ lossless s (c .at v .sent) .0) × (c .at v .receiving ≡ lossless s (c .at v .sent) .1) =
           P .in-the-end (λ k p. absurd (omega arith)) in
           (end .0 ∙ ap (λ (l : List ℕ). lossless s l .0) sent, end .1 ∙ ap (λ (l : List ℕ). lossless s l .1) sent),

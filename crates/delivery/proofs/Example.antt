@@ -19,7 +19,7 @@ use Rattle.delivery.specs.Promise.{Promise, lossless, retired-at}
 use Rattle.delivery.specs.Progress.{Course, Diligent, Fair}
 use Rattle.delivery.proofs.Effects.{rule-send, rule-resend, rule-timer, rule-hear, rule-arrive}
 use Rattle.delivery.proofs.Effects.{run-send, run-resend, run-timer, run-hear, run-arrive}
-use Rattle.delivery.proofs.Theorem.{demand-3}
+use Rattle.delivery.proofs.Theorem.{delivers}
 use Rattle.delivery.proofs.Fair.{goes-on}
 
 -- all definitions of the network under one name
@@ -166,7 +166,7 @@ the-end = (refl, refl, refl, refl, refl, refl)
 
 -- demand 3 speaks of it
 kept : Promise s w21
-kept = demand-3 s w21 run21
+kept = delivers s w21 run21
 
 alike : (w21 .sending ≡ lossless s (w21 .sent) .0) × (w21 .receiving ≡ lossless s (w21 .sent) .1)
 alike = kept .in-the-end nothing

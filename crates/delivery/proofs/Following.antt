@@ -18,9 +18,9 @@ use Rattle.delivery.specs.Network.{with-sender, with-receiver, on-send, 
 use Rattle.delivery.specs.Network.{Next, sends, resends, timers, hears, arrives, beside-sender, beside-receiver, Run, still, then}
 use Rattle.delivery.specs.Rules.{rules}
 use Rattle.delivery.specs.Rules as ours
-use Rattle.delivery.specs.Promise.{Kept as Keeping, Keep}
+use Rattle.delivery.specs.Promise.{Keep}
 use Rattle.delivery.proofs.Places.{stays}
-use Rattle.delivery.proofs.Theorem.{demand-3}
+use Rattle.delivery.proofs.Theorem.{delivers}
 
 -- ---- a side that follows another
 pub record Follows {E : Type 0} (S T : Side E) : Type 1 where
@@ -230,4 +230,4 @@ module _ {n : Sides} (F : Following n rules) (s : Start) (x : n .sender .State) 
 pub keeps : {n : Sides} (F : Following n rules) → Keep n (F .sender .meaning) (F .receiver .meaning)
 keeps F s x r b c w run =
     let ours-run = rules-run F s x r b c w run in
-    record { run = ours-run; promise = demand-3 s _ ours-run }
+    record { run = ours-run; promise = delivers s _ ours-run }

@@ -14,7 +14,7 @@ use Rattle.rules.specs.Receiving.{arrive}
 use Rattle.rules.specs.Sender.{outstanding}
 use Rattle.delivery.specs.Network.{Start}
 use Rattle.delivery.specs.Rules.{World}
-use Rattle.delivery.specs.Promise.{among, plain, ascending, lossless, retired-at, Demand3}
+use Rattle.delivery.specs.Promise.{among, plain, ascending, lossless, retired-at, Delivers}
 use Rattle.delivery.proofs.Sets.{all}
 use Rattle.delivery.proofs.Keeps.{keeps-rests}
 use Rattle.delivery.proofs.Invariant.{Inv, invariant}
@@ -46,8 +46,8 @@ module _ {s : Start} {w : World} (I : Inv s w) where
       in-order ∙ ascending-same s (among (w .accepted)) all (w .sent) all-accepted ∙ sym (lossless-receiver s (w .sent)),
     )
 
-pub demand-3 : Demand3
-demand-3 s w run =
+pub delivers : Delivers
+delivers s w run =
     let I = invariant run in
     record {
       place-is = I .keeps .place-is;

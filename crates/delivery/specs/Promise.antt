@@ -79,9 +79,9 @@ pub record Promise (s : Start) (w : World) : Type 0 where
   pub in-the-end : ((k : ℕ) → k < outstanding (w .sending) → retired-at (w .sending) k ≡ true)
       → (w .sending ≡ lossless s (w .sent) .0) × (w .receiving ≡ lossless s (w .sent) .1)
 
--- demand 3
-abbrev pub Demand3 : Type 0
-Demand3 = (s : Start) (w : World) → Run (begin s) w → Promise s w
+-- demand 3, of the rules' own two sides
+abbrev pub Delivers : Type 0
+Delivers = (s : Start) (w : World) → Run (begin s) w → Promise s w
 
 -- ---- the same of any two sides, whose records mean the rules': their world is one of the rules' runs, and so the promise is kept
 pub record Kept (s : Start) (w : World) : Type 0 where

@@ -1,0 +1,2 @@
+-- The three demands hold.
+pub mod Demands

@@ -1,0 +1,2 @@
+-- The customer's three demands.
+pub mod Demands
