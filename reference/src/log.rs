@@ -47,37 +47,67 @@ impl Record {
     }
 
     pub fn words(&self) -> String {
+        self.words_with(|_, value| value.to_string())
+    }
+
+    /// In words, where `value` says how the value of a field is written.
+    pub fn words_with(&self, value: impl Fn(&str, u64) -> String) -> String {
         let kind = &KINDS[self.kind - 1];
         let mut out = format!("{} slot={}", kind.name, self.slot);
-        for (value, (name, _)) in self.fields.iter().zip(kind.fields) {
-            write!(out, " {name}={value}").expect("a string takes all");
+        for (&number, (name, _)) in self.fields.iter().zip(kind.fields) {
+            write!(out, " {name}={}", value(name, number)).expect("a string takes all");
         }
         out
     }
 
-    pub fn from_words(line: &str) -> Result<Self, String> {
+    pub fn from_words(line: &str) -> Result<Self, Wrong> {
         let mut words = line.split_whitespace();
-        let name = words.next().ok_or("an empty line")?;
-        let kind = 1 + KINDS.iter().position(|k| k.name == name).ok_or(format!("no kind {name}"))?;
-        let mut field = |name: &str, width: usize| -> Result<u64, String> {
-            let word = words.next().ok_or(format!("{name} is missing"))?;
-            let (key, value) = word.split_once('=').ok_or(format!("{word} is not NAME=NUMBER"))?;
-            if key != name {
-                return Err(format!("{key} stands where {name} belongs"));
-            }
-            let value: u64 = value.parse().map_err(|_| format!("{value} is no number"))?;
-            if width < 8 && value >> (8 * width) != 0 {
-                return Err(format!("{name} {value} does not fit {width} bytes"));
-            }
-            Ok(value)
+        let found = words.next().unwrap_or("");
+        let names = KINDS.map(|kind| kind.name);
+        let kind = names.iter().position(|name| *name == found).ok_or_else(|| Wrong::new("kind", quoted(found), &names.join(", ")))? + 1;
+        let mut last = "kind";
+        let mut field = |name: &'static str, width: usize| -> Result<u64, Wrong> {
+            last = name;
+            let highest = u64::MAX >> (64 - 8 * width);
+            let found = words.next().unwrap_or("");
+            let wrong = || Wrong::new(name, quoted(found), &format!("{name}=N, N from 0 to {highest} in decimal"));
+            let digits = found.strip_prefix(name).and_then(|rest| rest.strip_prefix('=')).ok_or_else(wrong)?;
+            let decimal = !digits.is_empty() && digits.bytes().all(|byte| byte.is_ascii_digit());
+            digits.parse().ok().filter(|value| decimal && *value <= highest).ok_or_else(wrong)
         };
         let slot = field("slot", 1)? as u8;
         let fields = KINDS[kind - 1].fields.iter().map(|&(name, width)| field(name, width)).collect::<Result<_, _>>()?;
         match words.next() {
-            Some(extra) => Err(format!("{extra} is one word too many")),
+            Some(extra) => Err(Wrong::new(&format!("behind {last}"), quoted(extra), "nothing more")),
             None => Ok(Record { kind, slot, fields }),
         }
     }
+}
+
+/// Why words are no record: which field, what was found there and what is allowed.
+#[derive(Debug)]
+pub struct Wrong(String);
+
+impl Wrong {
+    pub fn new(field: &str, found: String, allowed: &str) -> Self {
+        Wrong(format!("{field}: found {found}; allowed is {allowed}"))
+    }
+}
+
+impl std::fmt::Display for Wrong {
+    fn fmt(&self, out: &mut std::fmt::Formatter) -> std::fmt::Result {
+        out.write_str(&self.0)
+    }
+}
+
+/// At most 40 characters of a word between quotes, each one that is not printable ASCII by its number.
+fn quoted(word: &str) -> String {
+    if word.is_empty() {
+        return "nothing".into();
+    }
+    let shown: String = word.chars().take(40).flat_map(char::escape_default).collect();
+    let rest = if word.chars().count() > 40 { " and more" } else { "" };
+    format!("'{shown}'{rest}")
 }
 
 /// The record at an offset with the offset after it, nothing at the end, or the refusal.

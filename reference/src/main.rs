@@ -3,6 +3,7 @@
 //!     reference replay < LOG                        the text that the program writes for a log
 //!     reference show < LOG                          a log in words, a record a line
 //!     reference make < WORDS > LOG                  a log from such words
+//!     reference tell COMMAND.. < LOG                has the command replay a log, and tells its lines in words
 //!     reference compare FROM COUNT SEED COMMAND..   has the command replay logs and compares the text
 //!     reference cases FOLDER N COMMAND..            the same for NAME.words with the text in NAME.text, N of them or more
 //!     reference log SEED NUMBER > LOG               one of compare's logs
@@ -12,12 +13,14 @@
 //!     reference answer < CALLS                      the lines for a sequence
 //!     reference make-calls < NAME.calls > CALLS     the calls of such a file
 //!
-//! compare and calls fail where something that can be reached was not, so too few do not pass.
+//! compare and calls fail where something that can be reached was not, so too few do not pass. Its status is 1 where something differs, the
+//! words make no log or the log that is told was refused, and 2 where the input cannot be read or the command does not answer.
 
 mod calls;
 mod generate;
 mod log;
 mod side;
+mod tell;
 
 use std::collections::BTreeMap;
 use std::io::{Read, Write};
@@ -25,17 +28,33 @@ use std::process::{exit, Command, Stdio};
 
 fn input() -> Vec<u8> {
     let mut bytes = Vec::new();
-    std::io::stdin().read_to_end(&mut bytes).expect("standard input can be read");
-    bytes
+    match std::io::stdin().read_to_end(&mut bytes) {
+        Ok(_) => bytes,
+        Err(why) => stop(format!("the input cannot be read: {why}")),
+    }
 }
 
+/// Whoever reads the output may stop doing so.
 fn output(bytes: &[u8]) {
-    std::io::stdout().write_all(bytes).expect("standard output can be written");
+    match std::io::stdout().write_all(bytes) {
+        Err(why) if why.kind() != std::io::ErrorKind::BrokenPipe => stop(format!("the output cannot be written: {why}")),
+        _ => {}
+    }
+}
+
+/// Says why the command that was asked for ends.
+fn say(why: &str) {
+    eprintln!("{}: {why}", std::env::args().nth(1).unwrap_or("reference".into()));
 }
 
 fn fail(why: String) -> ! {
-    eprintln!("reference: {why}");
+    say(&why);
     exit(1)
+}
+
+fn stop(why: String) -> ! {
+    say(&why);
+    exit(2)
 }
 
 fn words(bytes: &[u8]) -> String {
@@ -55,15 +74,22 @@ fn words(bytes: &[u8]) -> String {
     }
 }
 
-fn bytes(words: &str) -> Vec<u8> {
+/// The log that words make. An error names the line, the field, what was found there and what is allowed.
+fn bytes(words: &[u8]) -> Vec<u8> {
     let mut out = Vec::new();
-    for (n, line) in words.lines().enumerate() {
-        let line = line.split('#').next().unwrap_or("").trim();
-        if !line.is_empty() {
-            match log::Record::from_words(line) {
-                Ok(record) => out.extend(record.bytes()),
-                Err(why) => fail(format!("line {}: {why}", n + 1)),
-            }
+    for (n, line) in words.split(|byte| *byte == b'\n').enumerate() {
+        let wrong = |why: log::Wrong| -> ! { fail(format!("line {}, {why}", n + 1)) };
+        let text = std::str::from_utf8(line).unwrap_or_else(|why| {
+            let byte = format!("the byte {:02X}", line[why.valid_up_to()]);
+            wrong(log::Wrong::new("text", byte, "UTF-8"))
+        });
+        let record = text.split('#').next().unwrap_or("").trim();
+        if record.is_empty() {
+            continue;
+        }
+        out.extend(log::Record::from_words(record).unwrap_or_else(|why| wrong(why)).bytes());
+        if out.len() > log::LONGEST {
+            wrong(log::Wrong::new("log", format!("{} bytes up to here", out.len()), &format!("{} bytes or fewer", log::LONGEST)));
         }
     }
     out
@@ -149,7 +175,7 @@ fn compare_one(i: usize, seed: u64, command: &[String], seen: &mut Seen) {
         log::Last::Refused(number, _) => u64::from(number),
     };
     *seen.entry((0, end)).or_default() += 1;
-    let back = bytes(&words(&log));
+    let back = bytes(words(&log).as_bytes());
     if !log.starts_with(&back) {
         fail(format!("log {i} of seed {seed}: its words do not make its records again"));
     }
@@ -181,6 +207,15 @@ fn on_all<K: Ord + Send>(range: std::ops::Range<usize>, one: impl Fn(usize, &mut
         }
     });
     seen
+}
+
+/// Has the command replay a log, and tells its lines in words.
+fn told(command: &[String]) {
+    let log = input();
+    let text = replayed(command, &log).unwrap_or_else(|why| stop(format!("the program gives no text: {why}")));
+    let told = tell::tell(&log, &text).unwrap_or_else(|why| stop(format!("the program's text does not fit the log: {why}")));
+    output(told.text.as_bytes());
+    exit(i32::from(told.refused))
 }
 
 /// Compares the logs, and tells which answers they had.
@@ -286,7 +321,7 @@ fn cases(folder: &str, least: usize, command: &[String]) {
     let names = names(folder, ".words", least);
     for name in &names {
         let read = |ending: &str| std::fs::read_to_string(format!("{folder}/{name}.{ending}")).unwrap_or_else(|e| fail(format!("{name}.{ending}: {e}")));
-        let log = bytes(&read("words"));
+        let log = bytes(read("words").as_bytes());
         let expected = read("text");
         let found = replayed(command, &log);
         if found.as_ref() != Ok(&expected) {
@@ -315,7 +350,8 @@ fn main() {
     match words_of.as_slice() {
         ["replay"] => output(log::text(&input()).as_bytes()),
         ["show"] => output(words(&input()).as_bytes()),
-        ["make"] => output(&bytes(&String::from_utf8_lossy(&input()))),
+        ["make"] => output(&bytes(&input())),
+        ["tell", _, ..] => told(&args[1..]),
         ["log", seed, i] => output(&generate::log(number(seed), number(i) as usize)),
         ["compare", from, count, seed, _, ..] => compare(number(from) as usize, number(count) as usize, number(seed), &args[4..]),
         ["cases", folder, least, _, ..] => cases(folder, number(least) as usize, &args[3..]),
@@ -327,7 +363,7 @@ fn main() {
             let sequence: Vec<calls::Call> = call_script(&String::from_utf8_lossy(&input())).into_iter().map(|pair| pair.0).collect();
             output(&calls::bytes(&sequence));
         }
-        _ => fail("usage: replay | show | make | log SEED NUMBER | compare FROM COUNT SEED COMMAND.. | cases FOLDER N COMMAND.. | \
+        _ => fail("usage: replay | show | make | tell COMMAND.. | log SEED NUMBER | compare FROM COUNT SEED COMMAND.. | cases FOLDER N COMMAND.. | \
             calls FROM COUNT SEED COMMAND.. | call-cases FOLDER N COMMAND.. | call SEED NUMBER | answer | make-calls"
             .into()),
     }
