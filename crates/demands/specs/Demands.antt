@@ -25,7 +25,7 @@ use Rattle.rules.specs.declared.Written.the-variants.{Length}
 use Rattle.connection.specs.declared.Connection.{Connection}
 use Rattle.connection.specs.Record.{empty}
 use Rattle.table.specs.Slots.{AllSound, Reached, On, meaning}
-use Rattle.event_log.specs.Parts.{Writes}
+use Rattle.event_log.specs.Parts.{Reads, Writes}
 use Rattle.player.specs.Play.{begin}
 use Rattle.text.specs.Text.{head-text, text-of}
 use Rattle.text.specs.Piece as piece
@@ -34,10 +34,6 @@ use Rattle.delivery.specs.Progress.{DoesEnd, Settles, GoesOn}
 use Rattle.bridge.specs.Engines.{EnginesKeep}
 use Rattle.bridge.specs.Connections.{ConnectionsKeep}
 use Rattle.bridge.specs.Tables.{TablesKeep}
-
--- reading the log at a place may give x
-abbrev pub Reads : List ℕ → ℕ → Read → Type 0
-Reads log place x = read-line x ≡ read-line (read log place)
 
 -- "Any packet field, event or log bytes are met with an answer and never a fault."
 pub record Demand1 : Type 0 where

@@ -8,7 +8,6 @@ use lib.Seq.{length-take-le, drop-at, drop-drop, take-add}
 use Rattle.rules.specs.Numbers.{longest-log}
 use Rattle.fields.specs.Fields.{Bytes}
 use Rattle.rules.specs.Kinds.{kind-of, Wide}
-use Rattle.rules.specs.Paper.{read-line}
 use Rattle.rules.specs.Log.{encode, read, body, write, written}
 use Rattle.rules.specs.declared.Event.{Event}
 use Rattle.rules.specs.declared.Read.{Read}
@@ -17,11 +16,11 @@ use Rattle.rules.specs.declared.Written.{Written}
 use Rattle.rules.specs.declared.Written.the-variants.{Length}
 use Rattle.rules.proofs.RoundTrip.{write-read, read-kind, read-encode, read-write}
 use Rattle.rules.proofs.Apart.{reads-apart, writes-apart}
-use Rattle.event_log.specs.Parts.{Writes}
+use Rattle.event_log.specs.Parts.{Reads, Writes}
 
 -- "A log record written is read back as the same event"
 pub written-read : (slot : ℕ) (e : Event) (before after : List ℕ) (r : Written) (n : ℕ) (x : Read) → Writes slot e before r after → r ≡ Length n
-    → Wide e → length before ≤ longest-log → read-line x ≡ read-line (read after 0) → x ≡ Record slot e (kind-of e) n
+    → Wide e → length before ≤ longest-log → Reads after 0 x → x ≡ Record slot e (kind-of e) n
 written-read slot e before after r n x p r-is f l h =
     let w : write e (length before) ≡ Length n = sym (writes-apart r (write e (length before)) (p .answer-is)) ∙ r-is in
     let b : after ≡ written slot e before (Length n) = p .bytes-are ∙ ap (written slot e before) w in
@@ -29,7 +28,7 @@ written-read slot e before after r n x p r-is f l h =
 
 module _ (log : List ℕ) (place slot : ℕ) (e : Event) (kind next : ℕ) (b : Bytes log) where
   -- "read then written gives the same bytes"
-  pub read-written : (x : Read) (before after : List ℕ) (r : Written) → read-line x ≡ read-line (read log place) → x ≡ Record slot e kind next
+  pub read-written : (x : Read) (before after : List ℕ) (r : Written) → Reads log place x → x ≡ Record slot e kind next
       → Writes slot e before r after → next - place ≤ length before
       → (r ≡ Length (next - place)) × (after ≡ take (next - place) (drop place log) ++ drop (next - place) before)
   read-written x before after r h x-is p l =

@@ -2,16 +2,15 @@
 use mathlib.Core.Path.{_≡_, sym, _∙_}
 use mathlib.Core.List.{List}
 use Prim.Native.Nat.{ℕ}
-use Rattle.rules.specs.Paper.{read-line}
 use Rattle.rules.specs.Log.{read, body}
 use Rattle.rules.specs.declared.Event.{Event}
 use Rattle.rules.specs.declared.Read.{Read}
 use Rattle.rules.specs.declared.Written.{Written}
 use Rattle.rules.proofs.Apart.{reads-apart, writes-apart}
-use Rattle.event_log.specs.Parts.{Writes}
+use Rattle.event_log.specs.Parts.{Reads, Writes}
 
 module _ (log : List ℕ) (place : ℕ) where
-  pub read-settled : (x y : Read) → read-line x ≡ read-line (read log place) → read-line y ≡ read-line (read log place) → x ≡ y
+  pub read-settled : (x y : Read) → Reads log place x → Reads log place y → x ≡ y
   read-settled x y p q = reads-apart x y (p ∙ sym q)
 
   pub body-settled : (x y : List ℕ) → x ≡ body log place (read log place) → y ≡ body log place (read log place) → x ≡ y

@@ -1,4 +1,4 @@
--- What the functions of the log promise one another, and what writing promises.
+-- What the functions of the log promise one another, and what reading and writing promise.
 use mathlib.Core.Path.{_≡_}
 use mathlib.Core.List.{List}
 use Prim.Native.Nat.{ℕ}
@@ -6,9 +6,10 @@ use lib.ListN.{length, drop}
 use Rattle.fields.specs.Fields.{decode}
 use Rattle.rules.specs.Numbers.{record-head}
 use Rattle.rules.specs.Kinds.{widths}
-use Rattle.rules.specs.Paper.{written-line}
-use Rattle.rules.specs.Log.{write, written}
+use Rattle.rules.specs.Paper.{read-line, written-line}
+use Rattle.rules.specs.Log.{read, write, written}
 use Rattle.rules.specs.declared.Event.{Event}
+use Rattle.rules.specs.declared.Read.{Read}
 use Rattle.rules.specs.declared.Written.{Written}
 use Rattle.kinds.specs.Padded.{padded, FitsAll}
 
@@ -16,6 +17,10 @@ use Rattle.kinds.specs.Padded.{padded, FitsAll}
 pub record Holds (l : List ℕ) (kind : ℕ) (v : List ℕ) : Type 0 where
   pub values-are : v ≡ padded (decode (widths kind) (drop record-head l))
   pub fit : FitsAll (widths kind) v
+
+-- reading the log at a place may give x: the rules' answer, on paper
+abbrev pub Reads : List ℕ → ℕ → Read → Type 0
+Reads log place x = read-line x ≡ read-line (read log place)
 
 -- the answer on paper, and every byte after: a refusal leaves each as it was
 pub record Writes (slot : ℕ) (e : Event) (before : List ℕ) (r : Written) (after : List ℕ) : Type 0 where

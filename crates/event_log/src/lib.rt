@@ -5,9 +5,8 @@ ghost use Prim.Native.Nat.{_+_, _≤_};
 ghost use lib.ListN.{length, drop};
 ghost use Rattle.rules.specs.Numbers.{longest-log};
 ghost use Rattle.rules.specs.Kinds.{kind-of};
-ghost use Rattle.rules.specs.Paper.{read-line};
 ghost use Rattle.rules.specs.Log.{body as body-of, encode, read as read-of, read-left, whole as whole-of};
-ghost use Rattle.event_log.specs.Parts.{Holds, Writes};
+ghost use Rattle.event_log.specs.Parts.{Holds, Reads, Writes};
 use kinds::FIELDS;
 use rules::Event;
 use rules::LONGEST_LOG;
@@ -66,7 +65,7 @@ fn read_first(r: &[u8], place: usize) -> Read
 
 // The record at a place of the log.
 pub fn read(log: &[u8], place: usize) -> Read
-    ensures { λ x. ⌜ read-line x ≡ read-line (read-of (now (log .entry)) place) ⌝ }
+    ensures { λ x. ⌜ Reads (now (log .entry)) place x ⌝ }
 {
     if LONGEST_LOG < log.len() {
         return Read::Nothing(13);
