@@ -51,7 +51,7 @@ build() {
     [ -x "$here/target/bin/$1" ] && [ "${known%"${known#"$from"}"}" != "$from" ] || rm -f "$here/target/stamp/$1"
     all=1
     for c in $(sed -n "s/^$1: *//p" "$here/crates.txt"); do [ ! -d "$here/crates/$c" ] || all=$((all + 1)); done
-    echo "mrc: building $1: its $all crates are proved, those apart that have not changed since. From nothing it takes two to five minutes." >&2
+    echo "mrc: building $1: $all crates are to be proved, but for those that have not changed. From nothing it takes two to five minutes." >&2
     mkdir -p "$here/target/made" && rm -f "$here/target/made/$1" && : >"$here/target/made/$1.said" || stop "$here/target cannot be written"
     (cd "$here" && { rt check "$1" 2>&1; echo "mrc-status $?"; }) | progress "$1" "$all" || exit 2
     made_of "$1" "$from" >"$here/target/made/$1"
