@@ -102,7 +102,7 @@ take() {
     kept=$(mktemp -d) || stop 'there is no room for a copy of the input'
     trap 'rm -rf "$kept"' EXIT
     trap 'exit 2' HUP INT TERM
-    if [ $# -eq 2 ]; then head -c "$1" -- "$from"; else head -c "$1"; fi >"$kept/input" 2>"$kept/why" || stop "$name cannot be read: $(cat "$kept/why")"
+    if [ $# -eq 2 ]; then head -c "$1" <"$2"; else head -c "$1"; fi >"$kept/input" 2>"$kept/why" || stop "$name cannot be read: $(cat "$kept/why")"
 }
 
 longest=32768

@@ -20,7 +20,7 @@ const NACK: &[&str] = &["psn", "entropy", "rtx"];
 const ARRIVALS: [Named; 6] =
     [("fresh", SACK), ("known", SACK), ("beyond", NACK), ("no_buffer", NACK), ("trimmed", NACK), ("trimmed_last_hop", NACK)];
 
-/// By the kind, from 1 on; an arrival's line has the arrival answer before its values.
+/// By the kind, from 1 on. An arrival's line has the arrival answer before its values, which go by it.
 const ANSWERS: [Named; 8] = [
     ("started", &[]),
     ("closed", &[]),
@@ -57,26 +57,30 @@ fn psns(base: u64, bitmap: u64) -> String {
 }
 
 /// A value as it is told; a bitmap goes with the base beside it.
-fn value(name: &str, value: u64, base: Option<u64>) -> String {
+fn spoken(name: &str, number: u64, base: Option<u64>) -> String {
     match (name, base) {
-        ("bitmap", Some(base)) => psns(base, value),
-        ("flags", _) => braced(FLAGS.iter().enumerate().filter(|(i, _)| value >> i & 1 == 1).map(|(_, flag)| flag.to_string())),
-        ("reason", _) => (value as usize).checked_sub(1).and_then(|i| REASONS.get(i)).map_or(value.to_string(), |reason| format!("{value}:{reason}")),
-        _ => value.to_string(),
+        ("bitmap", Some(base)) => psns(base, number),
+        ("flags", _) => braced(FLAGS.iter().enumerate().filter(|(i, _)| number >> i & 1 == 1).map(|(_, flag)| flag.to_string())),
+        ("reason", _) => match (number as usize).checked_sub(1).and_then(|i| REASONS.get(i)) {
+            Some(reason) => format!("{number}:{reason}"),
+            None => number.to_string(),
+        },
+        _ => number.to_string(),
     }
 }
 
 fn event(record: &Record) -> String {
     let names = log::KINDS[record.kind - 1].fields;
     let base = names.iter().position(|(name, _)| *name == "base").map(|i| record.fields[i]);
-    record.words_with(|name, number| value(name, number, base))
+    record.words_with(|name, number| spoken(name, number, base))
 }
 
 /// The row of the rules' table.
 fn meaning(number: u64) -> &'static str {
-    let rows = RULES.lines().skip_while(|line| *line != PART);
-    let row = rows.map(|line| line.split('|').map(str::trim).collect::<Vec<_>>()).find(|cells| cells.get(1) == Some(&number.to_string().as_str()));
-    row.and_then(|cells| cells.get(2).copied()).unwrap_or("a number that the rules do not have")
+    let part = RULES.lines().skip_while(|line| *line != PART).skip(1).take_while(|line| !line.starts_with("## "));
+    let mut rows = part.map(|line| line.split('|').map(str::trim).collect::<Vec<_>>());
+    let row = rows.find(|cells| cells.get(1) == Some(&number.to_string().as_str()));
+    row.map_or("a number that the rules do not have", |cells| cells[2])
 }
 
 fn refusal(number: u64) -> String {
@@ -90,7 +94,7 @@ fn done(kind: usize, values: &[u64]) -> Option<String> {
         _ => (&ANSWERS[kind - 1], values),
     };
     let base = names.iter().position(|name| *name == "base").and_then(|i| values.get(i)).copied();
-    let named: String = names.iter().zip(values).map(|(name, number)| format!(" {name}={}", value(name, *number, base))).collect();
+    let named: String = names.iter().zip(values).map(|(name, number)| format!(" {name}={}", spoken(name, *number, base))).collect();
     (names.len() == values.len()).then(|| format!("{word}{named}"))
 }
 
