@@ -1,6 +1,6 @@
 -- The customer's three demands, a record each and a line or more for each sentence. What is said of a call is said of whatever its contract
 -- allows: `On` is that of `table::event`, `Reads` that of `event_log::read`, `Writes` that of `event_log::write`. Each of these functions is
--- proved to return, and to meet its contract, for any value of its types.
+-- proved to return, and to meet its contract, for any value of its types; `Wide` and `Bytes` say what the types hold an event and bytes to.
 use mathlib.Core.Path.{_≡_}
 use mathlib.Core.List.{List, _++_}
 use mathlib.Core.Logic.{_≢_}
