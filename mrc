@@ -40,6 +40,8 @@ progress() {
         esac
         printf '%s\n' "$line" >>"$here/target/made/$1.said"
     done
+    echo "mrc: $1 is not built, its check was cut off"
+    exit 2
 } >&2
 
 # Proves and builds a program, where it is not there or is not made of these sources.
