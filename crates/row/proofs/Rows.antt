@@ -2,7 +2,7 @@
 use mathlib.Core.Path.{_≡_, refl, sym, ap, ap₂, _∙_}
 use mathlib.Core.Bool.{Bool, true, false, not, cond, false≢true}
 use mathlib.Core.List.{List}
-use Prim.Native.Nat.{ℕ, _+_, _-_, _*_, _/_, _%_, _≤_, _<_}
+use Prim.Native.Nat.{ℕ, _+_, _-_, _*_, _/_, _%_, _^_, _≤_, _<_}
 use native.Mathlib.Omega.{arith}
 use native.Mathlib.Decide.{ℕ-discrete, decLt}
 use lib.Dec.{eqb}
@@ -12,7 +12,7 @@ use borrow.Author.Tests.{eq-eqb, ne-eqb, lt-ltb, le-ltb, not-true}
 use Rattle.lists.specs.Index.{First, weigh, tally}
 use Rattle.word.specs.Word.{bit-at, Bits, bit-of-two}
 use Rattle.lists.proofs.Index.{total-add, total-same}
-use Rattle.word.proofs.Bits.{bit-none}
+use Rattle.word.proofs.Bits.{bit-none, bit-not}
 use Rattle.row.specs.Row.{at, bits, Row, is-clear}
 
 -- ---- one bit
@@ -97,6 +97,29 @@ module _ (ws : List ℕ) where
     | yes l ↦ not-true (at ws t) (run .here l)
     | no l ↦ past t (omega arith)
   ]
+
+-- ---- a walk over whole words
+-- the word at p, flipped, has its lowest set bit where the row has its first clear one from p on
+pub flipped : (ws : List ℕ) (p t : ℕ) → p % 64 ≡ 0 → getD ws (p / 64) 0 < 2 ^ 64 → First (bit-at ((2 ^ 64 - 1) - getD ws (p / 64) 0)) 64 t
+    → First (λ b. is-clear ws (p + b)) 64 t
+flipped ws p t h small low = record {
+  within = low .within;
+  none = λ b l. turned b (omega (arith, low .within)) ∙ low .none b l;
+  here = λ l. turned t l ∙ low .here l;
+}
+  where
+    turned : (b : ℕ) → b < 64 → is-clear ws (p + b) ≡ bit-at ((2 ^ 64 - 1) - getD ws (p / 64) 0) b
+    turned b l =
+        let e : p + b ≡ 64 * (p / 64) + b = omega arith in
+        ap not (ap (at ws) e ∙ at-word ws (p / 64) b l) ∙ sym (bit-not 64 (getD ws (p / 64) 0) b small l)
+
+-- none below p is clear, and none of the next t
+pub none-stride : (ws : List ℕ) (p t : ℕ) → ((i : ℕ) → i < p → is-clear ws i ≡ false) → First (λ b. is-clear ws (p + b)) 64 t
+    → (i : ℕ) → i < p + t → is-clear ws i ≡ false
+none-stride ws p t before stride i l = elim (decLt i p) [
+  | yes h ↦ before i h
+  | no h ↦ ap (is-clear ws) (omega arith) ∙ stride .none (i - p) (omega arith)
+]
 
 -- ---- counts
 -- what passes below the end of word j, with its weight

@@ -69,24 +69,30 @@ pub fn block(ws: &[u64], p: u32) -> u64
     word::across(word_at(ws, j), word_at(ws, j + 1), p)
 }
 
-// How many set bits stand below the lowest clear one, n at the most.
+// How many set bits stand below the lowest clear one, n at the most. Whole words of them are stepped over.
 pub fn run(ws: &[u64], n: u32) -> u32
     ensures { λ r. ⌜ First (is-clear (now (ws .entry))) n r ⌝ }
 {
     let mut p: u32 = 0;
-    while p < n {
-        if !test(ws, p) {
-            return p;
+    loop {
+        let t = word::lowest(!word_at(ws, (p / 64) as usize));
+        if n - p <= t {
+            return n;
         }
-        p += 1;
+        if t < 64 {
+            return p + t;
+        }
+        p += 64;
     }
-    n
 }
 
-// The q lowest words go, and the others move down.
+// The q lowest words go, and the others move down. Where none goes, nothing is touched.
 pub fn shed(ws: &mut [u64], q: usize)
     ensures { λ r. ⌜ Becomes (now (ws .entry)) (now (ws .exit)) (λ p. bit-of (now (ws .entry)) (64 * q + p)) ⌝ }
 {
+    if q == 0 {
+        return;
+    }
     let n = ws.len();
     let mut i: usize = 0;
     while i < n {

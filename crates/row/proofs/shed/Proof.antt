@@ -1,4 +1,5 @@
--- `shed` meets its contract: the words below i have moved, those from i on stand as they stood, and past the end there is none. Assumes nothing.
+-- `shed` meets its contract: the words below i have moved, those from i on stand as they stood, and past the end there is none; where no word goes,
+-- all stand as they stood. Assumes nothing.
 use mathlib.Core.Path.{_≡_, refl, sym, ap, _∙_}
 use mathlib.Core.List.{List}
 use mathlib.Core.Logic.{⊎-elim}
@@ -51,11 +52,16 @@ Inv-loop ws₀ q n i₀ ws i = Moved ws₀ q ws i
 abbrev μ-loop : tie.MeasureT-loop
 μ-loop ws₀ q n i₀ ws i = length ws₀ - i
 
+returns : tie.Need-returns Inv-loop μ-loop
+returns c =
+    let entry = c .before in
+    record { long = refl; bits-are = λ p. ap (at (entry .args .ws .now)) (omega (arith, c .if1 .taken)) }
+
 loop-holds : tie.Need-loop-holds Inv-loop μ-loop
 loop-holds c = record { within = omega arith; long = refl; moved = below-none _; stood = λ x h. refl }
 
-sub-if1 : tie.Need-sub-if1 Inv-loop μ-loop
-sub-if1 c = search needs
+sub-if2 : tie.Need-sub-if2 Inv-loop μ-loop
+sub-if2 c = search needs
 
 add-ws : tie.Need-add-ws Inv-loop μ-loop
 add-ws c = search needs
@@ -87,7 +93,7 @@ loop-less c = search needs
 loop-again : tie.Need-loop-again Inv-loop μ-loop
 loop-again c =
     let l = c .before .before in
-    let entry = l .before in
+    let entry = l .before .before in
     let ws₀ = entry .args .ws .now in
     let q = entry .args .q in
     let ws = l .loop .ws in
@@ -95,15 +101,15 @@ loop-again c =
     let m = l .loop .inv in
     ⊎-elim (λ d. rw (d .2) (one-more ws₀ q ws i (getD ws (q + i) 0) m (omega arith) (m .stood (q + i) (omega arith))))
     (λ d. rw (d .1) (one-more ws₀ q ws i 0 m (omega arith) (sym (List·getD-eq-default ws₀ 0 (omega (arith, d .0 .left))))))
-    (c .if1 .came)
+    (c .if2 .came)
 
 same-length : tie.Need-same-length Inv-loop μ-loop
 same-length c = search needs
 
-returns : tie.Need-returns Inv-loop μ-loop
-returns c =
+returns-2 : tie.Need-returns-2 Inv-loop μ-loop
+returns-2 c =
     let l = c .before in
-    let entry = l .before in
+    let entry = l .before .before in
     let m = l .loop .inv in
     record { long = m .long; bits-are = all-moved (entry .args .ws .now) (entry .args .q) (l .loop .ws) (l .loop .i) m (omega arith) }
 
@@ -113,8 +119,9 @@ shed-spec =
     (tie.spec
     Inv-loop
     μ-loop
+    returns
     loop-holds
-    sub-if1
+    sub-if2
     add-ws
     mul-ws
     slice-read-ws
@@ -126,4 +133,4 @@ shed-spec =
     loop-less
     loop-again
     same-length
-    returns)
+    returns-2)
