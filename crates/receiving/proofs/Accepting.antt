@@ -31,7 +31,7 @@ moved e s t h l = omega arith
 -- the packet at distance d is set in us
 module _ (x : Lent) (h : Started x) (d : ℕ) (l : d < x .head .room)
     (us : List ℕ) (put : Becomes (x .words) us (with-bit (x .words) (offset x + d))) where
-  us-before : (p : ℕ) → p < offset x → at us p ≡ true
+  pub us-before : (p : ℕ) → p < offset x → at us p ≡ true
   us-before p k = put .bits-are p ∙ ap (λ (b : Bool). b || (eqb p (offset x + d) && ltb p (bits (x .words)))) (h .before p k)
 
   us-past : (p : ℕ) → offset x + x .head .room ≤ p → at us p ≡ false
@@ -47,6 +47,16 @@ module _ (x : Lent) (h : Started x) (d : ℕ) (l : d < x .head .room)
           rw (eq-eqb o d e, eq-eqb (offset x + o) (offset x + d) (omega arith), lt-ltb (offset x + o) (bits (x .words)) (omega (arith, h .enough)))
           (or-true (accepted x o))
       pick (no n) = rw (ne-eqb o d n, ne-eqb (offset x + o) (offset x + d) (λ e. n (omega arith))) (or-false (accepted x o))
+
+  -- E itself is accepted where its own packet came
+  pub us-own : at us (offset x) ≡ eqb d 0
+  us-own = elim (ℕ-discrete d 0) [
+    | yes e ↦ entry ∙ rw (eq-eqb 0 d (sym e), eq-eqb d 0 e)
+    | no n ↦ entry ∙ rw (ne-eqb 0 d (λ e. n (sym e)), ne-eqb d 0 n) (ap (at (x .words)) (omega arith) ∙ h .expected-open)
+  ]
+    where
+      entry : at us (offset x) ≡ cond (eqb 0 d) true (accepted x 0)
+      entry = ap (at us) (omega arith) ∙ us-entry 0 (omega arith)
 
   -- t is the lowest clear bit
   module _ (t : ℕ) (run : First (is-clear us) (offset x + x .head .room) t) where

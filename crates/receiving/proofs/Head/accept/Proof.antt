@@ -5,7 +5,7 @@ use borrow.Author.Needs.{needs}
 use Rattle.rules.proofs.Allowed.{room-numbers}
 use Rattle.receiving.specs.Lent.{Lent, lent}
 use Rattle.receiving.proofs.Entries.{fresh-within}
-use Rattle.receiving.proofs.Accepting.{past-offset, accept-started, accept-means}
+use Rattle.receiving.proofs.Accepting.{us-before, us-own, past-offset, accept-started, accept-means}
 use Rattle.receiving.proofs.Head.accept.Statement.{statement}
 use Rattle.receiving.proofs.Head.accept.Tie as tie
 
@@ -14,7 +14,7 @@ lent-at e = lent (e .args .self) (e .args .words .now)
 
 -- the entry, from where the distance is known
 abbrev entry : tie.After-distance → tie.Start
-entry c = c .before .before .before .before .before .before
+entry c = c .before .before .before .before .before
 
 inside : (c : tie.After-distance) → c .distance .result < entry c .args .self .room
 inside c = let e = entry c in fresh-within (lent-at e) (e .args .a) (c .distance .result) (c .distance .ensures) (e .pre .1)
@@ -23,18 +23,25 @@ distance-requires : tie.Need-distance-requires
 distance-requires c κs = search needs
 
 add-set : tie.Need-add-set
-add-set c = omega (arith, inside c, room-numbers (entry c .args .self .room) (entry c .pre .0 .room-good))
+add-set c = omega (arith, inside (c .before), room-numbers (entry (c .before) .args .self .room) (entry (c .before) .pre .0 .room-good))
 
 set-requires : tie.Need-set-requires
 set-requires c κs = search needs
 
-add-run : tie.Need-add-run
-add-run c =
-    let e = entry (c .before .before .before .before) in
+add-lowest-open : tie.Need-add-lowest-open
+add-lowest-open c =
+    let e = entry (c .before .before .before .before .before) in
     omega (arith, room-numbers (e .args .self .room) (e .pre .0 .room-good))
 
-run-requires : tie.Need-run-requires
-run-requires c κs = search needs
+lowest-open-requires : tie.Need-lowest-open-requires
+lowest-open-requires c κs =
+    let set = c .before .before .before in
+    let d = set .before .before in
+    let e = entry d in (
+      omega (arith, room-numbers (e .args .self .room) (e .pre .0 .room-good)),
+      us-before (lent-at e) (e .pre .0) (d .distance .result) (inside d) (set .set .last .0) (set .set .ensures),
+      us-own (lent-at e) (e .pre .0) (d .distance .result) (inside d) (set .set .last .0) (set .set .ensures),
+    )
 
 cast-shed : tie.Need-cast-shed
 cast-shed c = search needs
@@ -46,9 +53,9 @@ sub-after : tie.Need-sub-after
 sub-after c =
     let run = c .before .before .before .before in
     let set = run .before .before .before .before in
-    let d = set .before in
+    let d = set .before .before in
     let e = entry d in
-    past-offset (lent-at e) (e .pre .0) (d .distance .result) (inside d) (set .set .last .0) (set .set .ensures) (run .run .result) (run .run .ensures)
+    past-offset (lent-at e) (e .pre .0) (d .distance .result) (inside d) (set .set .last .0) (set .set .ensures) (run .lowest-open .result) (run .lowest-open .ensures)
 
 after-requires : tie.Need-after-requires
 after-requires c κs = search needs
@@ -68,16 +75,16 @@ returns c =
     let shed = c .before .before .before .before .before in
     let run = shed .before .before in
     let set = run .before .before .before .before in
-    let d = set .before in
+    let d = set .before .before in
     let e = entry d in
     let count = c .wrapping-add-u32 in
     record {
       started =
           accept-started (lent-at e) (e .pre .0) (d .distance .result) (inside d) (set .set .last .0) (set .set .ensures)
-          (run .run .result) (run .run .ensures) (shed .shed .last .0) (shed .shed .ensures) (moved .result) (moved .ensures) (count .result);
+          (run .lowest-open .result) (run .lowest-open .ensures) (shed .shed .last .0) (shed .shed .ensures) (moved .result) (moved .ensures) (count .result);
       accepted-is =
           accept-means (lent-at e) (e .pre .0) (d .distance .result) (inside d) (set .set .last .0) (set .set .ensures)
-          (run .run .result) (run .run .ensures) (shed .shed .last .0) (shed .shed .ensures) (moved .result) (moved .ensures) (count .result)
+          (run .lowest-open .result) (run .lowest-open .ensures) (shed .shed .last .0) (shed .shed .ensures) (moved .result) (moved .ensures) (count .result)
           (e .args .a) (d .distance .ensures) (count .ensures);
     }
 
@@ -88,8 +95,8 @@ accept-spec =
     distance-requires
     add-set
     set-requires
-    add-run
-    run-requires
+    add-lowest-open
+    lowest-open-requires
     cast-shed
     shed-requires
     sub-after
