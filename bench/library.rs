@@ -37,8 +37,9 @@ extern "C" {
 /// Words lent to a receiver of the largest room.
 const WORDS: usize = LARGEST_ROOM / 64 + 1;
 
-/// More than a sender's record takes: two bytes for each size, and two rows of words.
+/// More than a sender's record takes, which has two bytes for each size and two rows of words: the last of it is spare.
 const RECORD: usize = LARGEST_ROOM / 4 + 2 * WORDS + 16;
+const SPARE: [u64; 8] = [0xA5A5_A5A5_A5A5_A5A5; 8];
 
 /// A head, and the words that are lent to it: as many as its room needs.
 #[derive(Clone)]
@@ -67,8 +68,9 @@ impl Card for Library {
     }
 
     fn sender(room: u16, first: u32) -> Sender {
-        let mut sender = Sender([0; RECORD]);
+        let mut sender = Sender([SPARE[0]; RECORD]);
         unsafe { mrc_start_sending(sender.0.as_mut_ptr(), room, first) };
+        assert!(sender.0.ends_with(&SPARE), "a sender's record takes more than is thought here");
         sender
     }
 
