@@ -1,7 +1,7 @@
 //! Nanoseconds an event, of the library's functions and of plain Rust, side by side in one run. All answers of the two are compared first.
 //!
-//! usage: bench            the table
-//!        bench answers    only the comparison
+//! usage: bench         the table
+//!        bench gate    the comparison, and whether each arrival's rate is at least FLOOR
 mod library;
 mod plain;
 
@@ -14,6 +14,11 @@ use std::time::Instant;
 /// Each figure is the best of so many runs, each over so many records.
 const RUNS: usize = 50;
 const RECORDS: usize = 64;
+
+/// The least part of plain Rust's rate that an arrival may have in the gate, in the best of so many tries. A walk of E by bits comes to half of it or
+/// less; what is asked of the library is twice as much, which leaves room for a machine that is busy.
+const FLOOR: f64 = 0.3;
+const TRIES: usize = 5;
 
 /// Arrivals at each record, and how many go in a batch.
 const ARRIVALS: u32 = 2 * LARGEST_ROOM as u32;
@@ -321,6 +326,20 @@ fn time<C: Card>(lanes: &[Lane], ready: &[Record<C>], out: &mut [u64]) -> f64 {
     took
 }
 
+/// Nanoseconds an event of the library and of plain Rust, each the best of its runs, without what the clock takes.
+fn measure(work: fn(&mut Start) -> Work, room: u16, clock: f64, out: &mut [u64]) -> [f64; 2] {
+    let lanes = Lane::all(work, room);
+    let library: Vec<Record<Library>> = lanes.iter().map(|lane| lane.ready(out)).collect();
+    let rust: Vec<Record<Plain>> = lanes.iter().map(|lane| lane.ready(out)).collect();
+    let mut best = [f64::MAX; 2];
+    for _ in 0..RUNS {
+        best[0] = best[0].min(time(&lanes, &library, out));
+        best[1] = best[1].min(time(&lanes, &rust, out));
+    }
+    let many: usize = lanes.iter().map(Lane::events).sum();
+    best.map(|took| (took - clock) / many as f64)
+}
+
 fn main() {
     let rooms = [64, LARGEST_ROOM as u16];
     let mut out = vec![0; 4 * BATCH.max(LARGEST_ROOM)];
@@ -337,26 +356,27 @@ fn main() {
         }
     }
     println!("{same} answers of the library and of plain Rust are the same");
+    let clock = (0..1000).map(|_| Instant::now().elapsed().as_nanos()).min().unwrap() as f64;
     if std::env::args().nth(1).is_some() {
+        for (name, work) in EVENTS.iter().filter(|(name, _)| name.starts_with("arrival")) {
+            for room in rooms {
+                let ratio = |[library, rust]: [f64; 2]| rust / library;
+                if !(0..TRIES).any(|_| ratio(measure(*work, room, clock, &mut out)) >= FLOOR) {
+                    println!("{name}, room {room}: the library is below {FLOOR} of the rate of plain Rust");
+                    exit(1);
+                }
+            }
+        }
+        println!("each arrival's rate is at least {FLOOR} of that of plain Rust");
         return;
     }
-    let clock = (0..1000).map(|_| Instant::now().elapsed().as_nanos()).min().unwrap() as f64;
     println!("Nanoseconds an event, best of {RUNS} runs; the ratio is the library's rate to that of plain Rust\n");
     println!("{:36}{:>25}{:>28}", "", format!("room {}", rooms[0]), format!("room {}", rooms[1]));
     println!("{:36}{}", "", "   library    Rust   ratio  ".repeat(2).trim_end());
     for (name, work) in EVENTS {
         let mut line = format!("{name:36}");
         for room in rooms {
-            let lanes = Lane::all(work, room);
-            let library: Vec<Record<Library>> = lanes.iter().map(|lane| lane.ready(&mut out)).collect();
-            let rust: Vec<Record<Plain>> = lanes.iter().map(|lane| lane.ready(&mut out)).collect();
-            let mut best = [f64::MAX; 2];
-            for _ in 0..RUNS {
-                best[0] = best[0].min(time(&lanes, &library, &mut out));
-                best[1] = best[1].min(time(&lanes, &rust, &mut out));
-            }
-            let many: usize = lanes.iter().map(Lane::events).sum();
-            let [library, rust] = best.map(|took| (took - clock) / many as f64);
+            let [library, rust] = measure(work, room, clock, &mut out);
             line += &format!("{library:>10.1}{rust:>8.1}{:>8.2}  ", rust / library);
         }
         println!("{}", line.trim_end());

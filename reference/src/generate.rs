@@ -1,5 +1,5 @@
-//! Logs of every family, from a seed: traffic over a network that loses, trims, repeats, delays and swaps, events that are refused, damaged,
-//! cut and random bytes, and the lengths at the edges.
+//! Logs of every family, from a seed: traffic over a network that loses, trims, repeats, delays and swaps, long gaps that close, events that are
+//! refused, damaged, cut and random bytes, and the lengths at the edges.
 
 use crate::log::{Card, Record, LONGEST};
 use crate::side::{on, TURN};
@@ -208,6 +208,34 @@ pub fn long(chance: &mut Chance) -> Vec<u8> {
     script.bytes
 }
 
+/// Gaps of more than 64 packets that close at once: E's own packet comes behind all others that were sent, and the reply to it names all of them.
+pub fn gaps(chance: &mut Chance, room: u64, first: u32) -> Vec<u8> {
+    let mut script = Script::new(LONGEST);
+    script.event(1, 0, &[room, first.into(), room, first.into()]);
+    let mut expected = first;
+    while !script.full() {
+        let many = if chance.one_in(2) { room } else { room.min(65 + chance.below(room)) };
+        let mut packets: Vec<(u32, u64)> = (0..many).map(|i| (on(expected, i as u32), 48 + chance.below(9169))).collect();
+        for (_, size) in &packets {
+            if !script.full() {
+                script.event(3, 0, &[*size]);
+            }
+        }
+        packets.sort_by_cached_key(|(psn, _)| (*psn == expected, chance.next()));
+        for (psn, size) in packets {
+            if script.full() {
+                break;
+            }
+            let reply = script.event(4, 0, &[psn.into(), size, chance.below(4), chance.below(1 << 32)]).filter(|_| psn == expected && !script.full());
+            if let Some(values) = reply {
+                script.event(5, 0, &values[1..4]);
+                expected = on(values[1] as u32, 1);
+            }
+        }
+    }
+    script.bytes
+}
+
 const HALF_EDGE: u32 = TURN / 2;
 
 /// One record of each kind.
@@ -255,6 +283,10 @@ pub fn log(seed: u64, i: usize) -> Vec<u8> {
         5 => random(&mut chance, 1),
         6 => random(&mut chance, 2),
         n if n % 64 == 7 => long(&mut chance),
+        n if n % 64 == 15 => {
+            let (room, first) = (some_room(&mut chance), some_first(&mut chance));
+            gaps(&mut chance, room, first)
+        }
         n => match n % 8 {
             0 => {
                 let length = chance.below(64) as usize;

@@ -149,19 +149,27 @@ const REACHABLE: &[(usize, &[u64])] = &[
     (8, &[0, 1, 2, 9]),
 ];
 
-/// How often each (kind, answer) pair was seen; kind LONG is for logs whose text is longer than two of the program's buffers, which it writes when
-/// they are full.
+/// How often each (kind, answer) pair was seen; and under kinds that no record has, each of RARE.
 type Seen = BTreeMap<(usize, u64), u64>;
 
-const LONG: usize = usize::MAX;
 const BUFFER: usize = 65_536;
+const LONG: (usize, u64) = (usize::MAX, 0);
+const STRIDE: usize = usize::MAX - 1;
 
-/// One log in so many at the least must have such a text.
-const ONE_LONG_IN: u64 = 200;
+/// What must be met at least once for so many logs: a text longer than two of the program's buffers, which it writes when they are full; and a
+/// move over more than a word, of E by an arrival and of the place by a SACK.
+const ONE_IN: u64 = 200;
+const RARE: [((usize, u64), &str); 3] = [
+    (LONG, "texts of more than two buffers"),
+    ((STRIDE, 4), "arrivals that move E by more than 64"),
+    ((STRIDE, 5), "SACKs that move the place by more than 64"),
+];
 
 /// Has the command replay log i of a seed, which must make its records again from its own words.
 fn compare_one(i: usize, seed: u64, command: &[String], seen: &mut Seen) {
     let log = generate::log(seed, i);
+    // by slot and kind, where E and the place stand: one behind
+    let mut ends = BTreeMap::new();
     let last = log::replay(&log, |record, outcome| {
         let answer = match outcome {
             Err(number) => u64::from(*number),
@@ -169,6 +177,21 @@ fn compare_one(i: usize, seed: u64, command: &[String], seen: &mut Seen) {
             Ok(_) => 0,
         };
         *seen.entry((record.kind, answer)).or_default() += 1;
+        let turn = u64::from(side::TURN);
+        match (record.kind, outcome) {
+            (1, Ok(_)) => {
+                ends.insert((record.slot, 4), (record.fields[3] + turn - 1) % turn);
+                ends.insert((record.slot, 5), (record.fields[1] + turn - 1) % turn);
+            }
+            (4, Ok(done)) if done.values[0] > 1 => {}
+            (kind @ (4 | 5), Ok(done)) => {
+                let end = ends.insert((record.slot, kind), done.values[1]).expect("a slot in use was started");
+                if (done.values[1] + turn - end) % turn > 64 {
+                    *seen.entry((STRIDE, kind as u64)).or_default() += 1;
+                }
+            }
+            _ => {}
+        }
     });
     let end = match last {
         log::Last::End(_) => 0,
@@ -181,7 +204,7 @@ fn compare_one(i: usize, seed: u64, command: &[String], seen: &mut Seen) {
     }
     let expected = log::text(&log);
     if expected.len() > 2 * BUFFER {
-        *seen.entry((LONG, 0)).or_default() += 1;
+        *seen.entry(LONG).or_default() += 1;
     }
     let found = replayed(command, &log);
     if found.as_ref() != Ok(&expected) {
@@ -221,12 +244,12 @@ fn told(command: &[String]) {
 /// Compares the logs, and tells which answers they had.
 fn compare(from: usize, count: usize, seed: u64, command: &[String]) {
     let mut seen = on_all(from..from + count, |i, seen| compare_one(i, seed, command, seen));
-    let long = seen.remove(&(LONG, 0)).unwrap_or(0);
+    let rare = RARE.map(|(what, name)| (seen.remove(&what).unwrap_or(0), name));
     for (kind, answers) in REACHABLE {
         let row: Vec<String> = answers.iter().map(|a| format!("{a}: {}", seen.get(&(*kind, *a)).unwrap_or(&0))).collect();
         println!("kind {kind}  {}", row.join("  "));
     }
-    println!("text of more than {} bytes: {long}", 2 * BUFFER);
+    println!("{}", rare.map(|(times, name)| format!("{name}: {times}")).join("; "));
     for (kind, answers) in REACHABLE {
         for answer in *answers {
             if !seen.contains_key(&(*kind, *answer)) {
@@ -237,8 +260,8 @@ fn compare(from: usize, count: usize, seed: u64, command: &[String]) {
     if let Some(pair) = seen.keys().find(|(kind, answer)| !REACHABLE.iter().any(|(k, a)| k == kind && a.contains(answer))) {
         fail(format!("kind {} was answered {}, which no log can reach", pair.0, pair.1));
     }
-    if long * ONE_LONG_IN < count as u64 {
-        fail(format!("only {long} of {count} logs have a text of more than {} bytes", 2 * BUFFER));
+    if let Some((times, name)) = rare.iter().find(|(times, _)| times * ONE_IN < count as u64) {
+        fail(format!("{count} logs have {times} {name}, too few"));
     }
     println!("compare: {count} logs of seed {seed}, the same text for each");
 }

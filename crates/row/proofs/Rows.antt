@@ -99,26 +99,19 @@ module _ (ws : List ℕ) where
   ]
 
 -- ---- a walk over whole words
--- the word at p, flipped, has its lowest set bit where the row has its first clear one from p on
-pub flipped : (ws : List ℕ) (p t : ℕ) → p % 64 ≡ 0 → getD ws (p / 64) 0 < 2 ^ 64 → First (bit-at ((2 ^ 64 - 1) - getD ws (p / 64) 0)) 64 t
-    → First (λ b. is-clear ws (p + b)) 64 t
-flipped ws p t h small low = record {
-  within = low .within;
-  none = λ b l. turned b (omega (arith, low .within)) ∙ low .none b l;
-  here = λ l. turned t l ∙ low .here l;
-}
-  where
-    turned : (b : ℕ) → b < 64 → is-clear ws (p + b) ≡ bit-at ((2 ^ 64 - 1) - getD ws (p / 64) 0) b
-    turned b l =
-        let e : p + b ≡ 64 * (p / 64) + b = omega arith in
-        ap not (ap (at ws) e ∙ at-word ws (p / 64) b l) ∙ sym (bit-not 64 (getD ws (p / 64) 0) b small l)
+-- bit b of the word at p, flipped: whether the row is clear there
+pub flipped : (ws : List ℕ) (p b : ℕ) → p % 64 ≡ 0 → b < 64 → getD ws (p / 64) 0 < 2 ^ 64
+    → is-clear ws (p + b) ≡ bit-at ((2 ^ 64 - 1) - getD ws (p / 64) 0) b
+flipped ws p b h l small =
+    let e : p + b ≡ 64 * (p / 64) + b = omega arith in
+    ap not (ap (at ws) e ∙ at-word ws (p / 64) b l) ∙ sym (bit-not 64 (getD ws (p / 64) 0) b small l)
 
--- none below p is clear, and none of the next t
-pub none-stride : (ws : List ℕ) (p t : ℕ) → ((i : ℕ) → i < p → is-clear ws i ≡ false) → First (λ b. is-clear ws (p + b)) 64 t
-    → (i : ℕ) → i < p + t → is-clear ws i ≡ false
-none-stride ws p t before stride i l = elim (decLt i p) [
+-- none below p passes, and of the 64 from p on, which are those of g, none below t
+pub none-stride : (f g : ℕ → Bool) (p t : ℕ) → ((b : ℕ) → b < 64 → f (p + b) ≡ g b) → ((i : ℕ) → i < p → f i ≡ false) → First g 64 t
+    → (i : ℕ) → i < p + t → f i ≡ false
+none-stride f g p t same before first i l = elim (decLt i p) [
   | yes h ↦ before i h
-  | no h ↦ ap (is-clear ws) (omega arith) ∙ stride .none (i - p) (omega arith)
+  | no h ↦ ap f (omega arith) ∙ same (i - p) (omega (arith, first .within)) ∙ first .none (i - p) (omega arith)
 ]
 
 -- ---- counts

@@ -51,11 +51,12 @@ shed-requires c κs = search needs
 
 sub-after : tie.Need-sub-after
 sub-after c =
-    let run = c .before .before .before .before in
-    let set = run .before .before .before .before in
+    let found = c .before .before .before .before in
+    let set = found .before .before .before .before in
     let d = set .before .before in
     let e = entry d in
-    past-offset (lent-at e) (e .pre .0) (d .distance .result) (inside d) (set .set .last .0) (set .set .ensures) (run .lowest-open .result) (run .lowest-open .ensures)
+    past-offset (lent-at e) (e .pre .0) (d .distance .result) (inside d) (set .set .last .0) (set .set .ensures)
+    (found .lowest-open .result) (found .lowest-open .ensures)
 
 after-requires : tie.Need-after-requires
 after-requires c κs = search needs
@@ -73,18 +74,18 @@ returns : tie.Need-returns
 returns c =
     let moved = c .before .before .after in
     let shed = c .before .before .before .before .before in
-    let run = shed .before .before in
-    let set = run .before .before .before .before in
+    let found = shed .before .before in
+    let set = found .before .before .before .before in
     let d = set .before .before in
     let e = entry d in
     let count = c .wrapping-add-u32 in
     record {
       started =
           accept-started (lent-at e) (e .pre .0) (d .distance .result) (inside d) (set .set .last .0) (set .set .ensures)
-          (run .lowest-open .result) (run .lowest-open .ensures) (shed .shed .last .0) (shed .shed .ensures) (moved .result) (moved .ensures) (count .result);
+          (found .lowest-open .result) (found .lowest-open .ensures) (shed .shed .last .0) (shed .shed .ensures) (moved .result) (moved .ensures) (count .result);
       accepted-is =
           accept-means (lent-at e) (e .pre .0) (d .distance .result) (inside d) (set .set .last .0) (set .set .ensures)
-          (run .lowest-open .result) (run .lowest-open .ensures) (shed .shed .last .0) (shed .shed .ensures) (moved .result) (moved .ensures) (count .result)
+          (found .lowest-open .result) (found .lowest-open .ensures) (shed .shed .last .0) (shed .shed .ensures) (moved .result) (moved .ensures) (count .result)
           (e .args .a) (d .distance .ensures) (count .ensures);
     }
 
