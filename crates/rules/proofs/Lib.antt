@@ -10,6 +10,7 @@ pub mod Rooms
 pub mod Runs
 pub mod Slots
 pub mod Slips
+pub mod Counts
 pub mod EventKinds
 pub mod Cells
 pub mod Records

@@ -11,7 +11,7 @@ use Rattle.promise.specs.Outcome.{Outcome, Refused, Done, Refusals, unless, fir
 use Rattle.promise.proofs.Refusing.{unless-both, refused-or, first-refuses}
 use Rattle.promise.proofs.Outcomes.{unless-within}
 use Rattle.rules.specs.Numbers.{longest-log}
-use Rattle.rules.specs.Receiver.{Receiver, verdict, judged}
+use Rattle.rules.specs.Receiver.{Receiver, verdict, acked, judged}
 use Rattle.rules.specs.Receiving as receiving
 use Rattle.rules.specs.Sender.{Sender, index, with-entries, sent}
 use Rattle.rules.specs.Retire.{report, acknowledged}
@@ -80,7 +80,7 @@ splits-before l m o s = record {
 
 -- ---- each event
 judged-done : (r : Receiver) (a : Arrival) (v : Verdict) → Does (judged r a v)
-unfolding judged paper
+unfolding judged acked paper
 judged-done r a Fresh = does _ _ refl
 judged-done r a Known = does _ _ refl
 judged-done r a Beyond = does _ _ refl

@@ -1,5 +1,5 @@
--- What the receiving side always has, it keeps: an arrival that is accepted slides the window to its first open entry, and any other
--- changes nothing. Assumes nothing.
+-- What the receiving side always has, it keeps: an arrival that is accepted slides the window to its first open entry, one that is counted
+-- changes the count alone, and any other changes nothing. Assumes nothing.
 use mathlib.Core.Path.{_≡_, ap, _∙_}
 use mathlib.Core.Bool.{true, false}
 use Prim.Native.Nat.{ℕ, _<_}
@@ -8,7 +8,7 @@ use lib.ListN.{getD, set, length-set, length-replicate}
 use Rattle.psn.proofs.Circle.{after-lt}
 use Rattle.rules.specs.Numbers.{turn, distance, room-ok}
 use Rattle.lists.specs.Lists.{lead}
-use Rattle.rules.specs.Receiver.{Receiver, fresh, verdict, judged, accept}
+use Rattle.rules.specs.Receiver.{Receiver, fresh, verdict, accept, counted, acked, judged}
 use Rattle.rules.specs.Receiving.{Receiving, arrive, arrive-refusals, step}
 use Rattle.rules.specs.Kept.{Receives}
 use Rattle.rules.specs.declared.Arrival.{Arrival}
@@ -34,13 +34,22 @@ receives-accept r a k =
       room-good = ap room-ok (length-slide (lead w) w (lead-le w) ∙ length-set (r .window) _ true) ∙ k .room-good;
       expected-low = after-lt (r .expected) (lead w);
       expected-open = getD-slide (lead w) w 0 ∙ ap (λ (i : ℕ). getD w i false) (omega arith) ∙ lead-false w;
-      count-low = omega arith;
+      count-low = k .count-low;
     }
 
+receives-counted : (r : Receiver) (a : Arrival) → Receives r → Receives (counted r a)
+unfolding counted
+receives-counted r a k = record {
+  room-good = k .room-good;
+  expected-low = k .expected-low;
+  expected-open = k .expected-open;
+  count-low = omega arith;
+}
+
 receives-judged : (r : Receiver) (a : Arrival) (v : Verdict) → Receives r → After Receives r (judged r a v)
-unfolding judged
-receives-judged r a Fresh k = after-done Receives r _ _ (receives-accept r a k)
-receives-judged r a Known k = after-done Receives r _ _ k
+unfolding judged acked
+receives-judged r a Fresh k = after-done Receives r _ _ (receives-counted _ a (receives-accept r a k))
+receives-judged r a Known k = after-done Receives r _ _ (receives-counted r a k)
 receives-judged r a Beyond k = after-done Receives r _ _ k
 receives-judged r a NoBuffer k = after-done Receives r _ _ k
 receives-judged r a Trim k = after-done Receives r _ _ k

@@ -8,7 +8,7 @@ use mathlib.Core.Bool.{true, false}
 use mathlib.Core.List.{map}
 use Rattle.rules.specs.Numbers.{distance}
 use Rattle.lists.specs.Lists.{lead}
-use Rattle.rules.specs.Receiver.{Receiver, room, verdict, accept, judged}
+use Rattle.rules.specs.Receiver.{Receiver, room, verdict, accept, counted, acked, judged}
 use Rattle.rules.specs.Receiving.{Receiving, arrive, arrive-refusals}
 use Rattle.rules.specs.Receiving as receiving
 use Rattle.rules.specs.Receiver as receiver
@@ -38,7 +38,7 @@ room-accept r a =
     length-slide (lead w) w (lead-le w) ∙ length-set (r .window) _ true
 
 room-judged : (r : Receiver) (a : Arrival) (v : Verdict) → After (SameRoom r) r (judged r a v)
-unfolding judged
+unfolding judged acked counted
 room-judged r a Fresh = after-done (SameRoom r) r _ _ (room-accept r a)
 room-judged r a Known = after-done (SameRoom r) r _ _ refl
 room-judged r a Beyond = after-done (SameRoom r) r _ _ refl

@@ -25,7 +25,7 @@ unfolding bit-at after distance room-ok size-ok flags-ok reason-ok
     unless first-of left within
     number spell joined parted fields.encode fields.decode
     receiver.fresh receiver.start-refusals receiver.start receiver.judge receiver.known receiver.beyond receiver.verdict receiver.accept
-    receiver.block-at receiver.block receiver.sack-of receiver.reason-of receiver.nack-of receiver.judged
+    receiver.counted receiver.block-at receiver.block receiver.sack-of receiver.reason-of receiver.nack-of receiver.acked receiver.judged
     receiving.arrive-refusals receiving.arrive receiving.step
     sender.next sender.size-held sender.held sender.fresh sender.start-refusals sender.start sender.with-entries sender.sent sender.index
     sender.unsent

@@ -1,5 +1,6 @@
--- 01, From the bench: the starred cases, and L, as one table. A case asks for events on a fresh connection, for a log's records or
--- for its answers, and has the lines that come back.
+-- 01, From the bench: the starred cases, and L, as one table. A case asks for events on a fresh connection, with a look at its receiver's
+-- record between them, for a log's records or for its answers, and has the lines that come back. 02, No. 4 amends "R3's record and the
+-- known half of R6".
 use mathlib.Core.Path.{_≡_}
 use mathlib.Core.Bool.{false}
 use mathlib.Core.List.{List, [], _∷_, map}
@@ -8,8 +9,9 @@ use lib.ListN.{length, replicate}
 use Rattle.promise.specs.Line.{Line, refused, done}
 use Rattle.promise.specs.Outcome.{left}
 use Rattle.rules.specs.Numbers.{psn}
-use Rattle.rules.specs.Receiver.{Receiver, accept}
-use Rattle.rules.specs.Receiving.{Arrive}
+use Rattle.lists.specs.Lists.{pack}
+use Rattle.rules.specs.Receiver.{Receiver, room}
+use Rattle.rules.specs.Receiving.{Arrive, arrive}
 use Rattle.rules.specs.Connection.{Connection, empty, start, step}
 use Rattle.rules.specs.Kinds.{plain}
 use Rattle.rules.specs.Paper.{answered, paper, read-line}
@@ -29,10 +31,15 @@ pub data Label : Type 0 where
   Late : Label
   Reason : ℕ → Label
 
--- an event on the bench's connection, and the line that comes back
+-- what a row asks of the bench's connection: an event, or what its receiver keeps
+pub data Asked : Type 0 where
+  Event : Use → Asked
+  Look : Asked
+
+-- and the line that comes back
 pub record Row : Type 0 where
   pub label : Label
-  pub asked : Use
+  pub asked : Asked
   pub told : Line
 
 pub data Case : Type 0 where
@@ -43,10 +50,17 @@ pub data Case : Type 0 where
   -- a log's answers, and its last line's numbers
   Answers : List ℕ → List Line → Case
 
+-- what a look gives: E, the room, the window's bits and the count
+abbrev pub kept : ℕ → ℕ → ℕ → ℕ → Line
+kept expected room window count = done 0 (expected ∷ room ∷ window ∷ count ∷ []) []
+
 -- ---- what the rules say
 unfoldable pub lines : Connection → List Row → List Line
 lines c [] = []
-lines c (r ∷ l) = paper (answered (step c (r .asked))) ∷ lines (left c (step c (r .asked))) l
+lines c (r ∷ l) = elim (r .asked) [
+  | Event e ↦ paper (answered (step c e)) ∷ lines (left c (step c e)) l
+  | Look ↦ kept (c .receiver .expected) (room (c .receiver)) (pack (c .receiver .window)) (c .receiver .count) ∷ lines c l
+]
 
 -- "Receiver, room 64, first PSN 16,777,214"; "Sender, room 64, first PSN 10"
 unfoldable pub bench : Connection
@@ -86,7 +100,10 @@ expected (Records log l) = l
 expected (Answers log l) = l
 
 abbrev pub row : Label → Use → Line → Row
-row l e t = record { label = l; asked = e; told = t }
+row l e t = record { label = l; asked = Event e; told = t }
+
+abbrev pub look : Label → Line → Row
+look l t = record { label = l; asked = Look; told = t }
 
 -- an arrival of 100 bytes with these flags, and with none
 abbrev pub flagged : ℕ → ℕ → Use
@@ -113,21 +130,25 @@ abbrev pub receiving : List Row
 receiving =
     row (R 1) (arrives 16777215) (acked 0 16777213 16777214 2 0)
     ∷ row (R 2) (arrives 16777214) (acked 0 16777215 0 0 0)
-    ∷ row (R 3) (arrives 16777215) (acked 1 16777215 0 0 0)
+    ∷ row (R 3) (arrives 16777215) (acked 1 16777215 0 0 1)
+    ∷ look (R 3) (kept 0 64 0 300)
     ∷ row (R 4) (arrives 63) (acked 0 16777215 0 (2 ^ 63) 1)
     ∷ row (R 5) (arrives 64) (nacked 2 64 3)
     ∷ row (R 6) (arrives 8388607) (nacked 2 8388607 3)
+    ∷ look (R 6) (kept 0 64 (2 ^ 63) 400)
     ∷ row (R 6) (arrives 8388608) (acked 1 16777215 0 (2 ^ 63) 1)
+    ∷ look (R 6) (kept 0 64 (2 ^ 63) 500)
     ∷ []
 
 -- each reason as the sending side takes it, "1 TRIM, 2 TRIM_LASTHOP, 3 NO_BITMAP, 4 NO_PKT_BUFFER": trimmed, trimmed at the last hop,
--- beyond the window, no buffer
+-- beyond the window, no buffer. 02, No. 4: "beyond, no-buffer and trimmed ones still don't" add their sizes
 abbrev pub reasons : List Row
 reasons =
     row (Reason 1) (flagged 4 16777214) (nacked 4 16777214 1)
     ∷ row (Reason 2) (flagged 8 16777214) (nacked 5 16777214 2)
     ∷ row (Reason 3) (arrives 62) (nacked 2 62 3)
     ∷ row (Reason 4) (flagged 16 16777214) (nacked 3 16777214 4)
+    ∷ look (Reason 4) (kept 16777214 64 0 0)
     ∷ []
 
 -- "four sends of 100", S1 to S5, and then a SACK whose cack is behind the place: "its set bits still count"
@@ -174,9 +195,13 @@ cases = Events receiving ∷ Events reasons ∷ Events sending ∷ Records log-L
 abbrev pub nearly-wrapped : Receiver
 nearly-wrapped = record { expected = 0; window = replicate 64 false; count = 4294967295 }
 
--- the one claim: each case is answered as it says. "Whole lengths: 14, 4, 6, 14, 18, 8, 7, 4" stands beside it, and the count that 100
--- bytes leave there.
+-- the count that 100 bytes leave there
+abbrev pub wrapped : ℕ → ℕ
+wrapped p = left nearly-wrapped (arrive nearly-wrapped (record { psn = psn p; size = 100; flags = 0; entropy = 7 })) .count
+
+-- the one claim: each case is answered as it says. "Whole lengths: 14, 4, 6, 14, 18, 8, 7, 4" stands beside it, and the wrap of the
+-- count by a fresh packet and by a known one.
 pub record Starred : Type 0 where
   pub as-worked : map told cases ≡ map expected cases
-  pub count-wraps : accept nearly-wrapped (record { psn = psn 0; size = 100; flags = 0; entropy = 7 }) .count ≡ 99
+  pub count-wraps : map wrapped (0 ∷ 16777215 ∷ []) ≡ 99 ∷ 99 ∷ []
   pub lengths : map whole (1 ∷ 2 ∷ 3 ∷ 4 ∷ 5 ∷ 6 ∷ 7 ∷ 8 ∷ []) ≡ 14 ∷ 4 ∷ 6 ∷ 14 ∷ 18 ∷ 8 ∷ 7 ∷ 4 ∷ []

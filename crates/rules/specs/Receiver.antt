@@ -54,7 +54,7 @@ judge false false false true n = Beyond
 judge false false false false true = NoBuffer
 judge false false false false false = Fresh
 
--- rule 2: "Behind E, or in the window and already accepted"
+-- rule 2: "Behind E, or in the window and already accepted"; its "Record unchanged" is amended by 02, No. 4 (`counted`)
 unfoldable pub known : Receiver → ℕ → Bool
 known r p = behind (r .expected) p || getD (r .window) (distance (r .expected) p) false
 
@@ -66,15 +66,15 @@ unfoldable pub verdict : Receiver → Arrival → Verdict
 verdict r a =
     judge (trimmed (a .flags)) (trimmed-last-hop (a .flags)) (known r (a .psn .0)) (beyond r (a .psn .0)) (no-buffer (a .flags))
 
--- rule 5: "accepted, the size is added to the count, and E moves to the first PSN not accepted"
+-- rule 5: "accepted, .., and E moves to the first PSN not accepted"
 unfoldable pub accept : Receiver → Arrival → Receiver
 accept r a =
     let w = set (r .window) (distance (r .expected) (a .psn .0)) true in
-    record {
-      expected = after (r .expected) (lead w);
-      window = slide (lead w) w;
-      count = (r .count + a .size) % 2 ^ 32;
-    }
+    record { expected = after (r .expected) (lead w); window = slide (lead w) w; count = r .count }
+
+-- rule 5: "the size is added to the count", and with 02, No. 4, rule 2 too: "From now on every arrival answered 0 or 1 adds its size"
+unfoldable pub counted : Receiver → Arrival → Receiver
+counted r a = record { expected = r .expected; window = r .window; count = (r .count + a .size) % 2 ^ 32 }
 
 -- "with d the distance from the new E to the causing PSN, its base is E + 64 x (d / 64 rounded down) if d < room, else E"
 unfoldable pub block-at : Receiver → ℕ → ℕ
@@ -114,10 +114,14 @@ reason-of TrimLastHop = 2
 unfoldable pub nack-of : Verdict → Arrival → Nack
 nack-of v a = record { psn = a .psn; reason = reason-of v; entropy = a .entropy; rtx = rtx (a .flags) }
 
--- "Answers 0 and 1 bring a SACK, the others a NACK"; only a fresh packet changes the record
+-- "Answers 0 and 1 bring a SACK": the size is counted, and the SACK is that of the record after it
+unfoldable pub acked : Receiver → Arrival → Verdict → Outcome Answer Receiver
+acked r a v = let r′ = counted r a in Done r′ (answer.Acked v (sack-of r′ a))
+
+-- a fresh packet is accepted and counted, a known one is counted and changes nothing else; "the others a NACK", and "Record unchanged"
 unfoldable pub judged : Receiver → Arrival → Verdict → Outcome Answer Receiver
-judged r a Fresh = let r′ = accept r a in Done r′ (answer.Acked Fresh (sack-of r′ a))
-judged r a Known = Done r (answer.Acked Known (sack-of r a))
+judged r a Fresh = acked (accept r a) a Fresh
+judged r a Known = acked r a Known
 judged r a Beyond = Done r (answer.Nacked Beyond (nack-of Beyond a))
 judged r a NoBuffer = Done r (answer.Nacked NoBuffer (nack-of NoBuffer a))
 judged r a Trim = Done r (answer.Nacked Trim (nack-of Trim a))
