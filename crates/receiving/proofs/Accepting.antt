@@ -3,7 +3,7 @@
 use mathlib.Core.Path.{_≡_, refl, sym, ap, ap₂, _∙_, subst}
 use mathlib.Core.Bool.{Bool, true, false, cond, _&&_, _||_, or-true, or-false}
 use mathlib.Core.List.{List}
-use Prim.Native.Nat.{ℕ, _+_, _-_, _*_, _/_, _%_, _^_, _≤_, _<_}
+use Prim.Native.Nat.{ℕ, _+_, _-_, _*_, _/_, _%_, _≤_, _<_}
 use native.Mathlib.Omega.{arith}
 use native.Mathlib.Decide.{ℕ-discrete}
 use lib.Dec.{eqb, ltb}
@@ -68,9 +68,9 @@ module _ (x : Lent) (h : Started x) (d : ℕ) (l : d < x .head .room)
 
     -- the whole words below it go
     module _ (vs : List ℕ) (shed : Becomes us vs (λ p. at us (64 * (t / 64) + p)))
-        (e : Psn) (e-is : e .0 ≡ after (x .head .expected .0) (t - offset x)) (n : ℕ) where
+        (e : Psn) (e-is : e .0 ≡ after (x .head .expected .0) (t - offset x)) where
       abbrev y : Lent
-      y = lent (record { room = x .head .room; expected = e; count = n }) vs
+      y = lent (record { room = x .head .room; expected = e; count = x .head .count }) vs
 
       offset-is : offset y ≡ t % 64
       offset-is = ap (λ (m : ℕ). m % 64) e-is ∙ moved (x .head .expected .0) (offset x) t refl past-offset
@@ -88,10 +88,9 @@ module _ (x : Lent) (h : Started x) (d : ℕ) (l : d < x .head .room)
         past = λ p k. shed .bits-are p ∙ us-past (64 * (t / 64) + p) (omega (arith, offset-is, past-offset));
       }
 
-      pub accept-means : (a : Arrival) → d ≡ distance (x .head .expected .0) (a .psn .0) → n ≡ (x .head .count + a .size) % 2 ^ 32
-          → meaning y ≡ accept (meaning x) a
+      pub accept-means : (a : Arrival) → d ≡ distance (x .head .expected .0) (a .psn .0) → meaning y ≡ accept (meaning x) a
       unfolding meaning accept
-      accept-means a d-is n-is =
+      accept-means a d-is =
           let room = x .head .room in
           let m = t - offset x in
           let f : ℕ → Bool = λ o. at us (offset x + o) in
@@ -104,4 +103,4 @@ module _ (x : Lent) (h : Started x) (d : ℕ) (l : d < x .head .room)
           table-same room (accepted y) (λ i. f (m + i)) (λ i k. vs-at i ∙ ap (at us) (omega (arith, past-offset)))
           ∙ sym (slide-table room f m (omega (arith, run .within)) (λ i k. us-past (offset x + i) (omega arith)))
           ∙ ap₂ slide (sym lead-is) (sym w-is) in
-          λ i. record { expected = (e-is ∙ ap (after (x .head .expected .0)) (sym lead-is)) i; window = window-is i; count = n-is i }
+          λ i. record { expected = (e-is ∙ ap (after (x .head .expected .0)) (sym lead-is)) i; window = window-is i; count = x .head .count }

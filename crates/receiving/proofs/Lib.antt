@@ -2,5 +2,6 @@
 pub mod Ways
 pub mod Entries
 pub mod Accepting
+pub mod Counting
 pub mod Blocks
 pub mod Settled

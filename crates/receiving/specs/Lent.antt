@@ -9,10 +9,12 @@ use Rattle.lists.specs.Index.{table}
 use Rattle.row.specs.Row.{at}
 use Rattle.rules.specs.Numbers.{turn, psn, room-ok}
 use Rattle.promise.specs.Promise.{Meets}
-use Rattle.rules.specs.Receiver.{Receiver, accept}
+use Rattle.rules.specs.Receiver.{Receiver, accept, counted, sack-of}
 use Rattle.rules.specs.Receiving.{arrive}
 use Rattle.rules.specs.Paper.{paper}
 use Rattle.rules.specs.declared.Arrival.{Arrival}
+use Rattle.rules.specs.declared.Verdict.{Verdict}
+use Rattle.rules.specs.declared.Answer.the-variants as answer
 use Rattle.receiving.specs.declared.Head.{Head}
 use Rattle.receiving.specs.declared.Stepped.{Stepped}
 
@@ -55,10 +57,16 @@ Empty x = x ≡ empty (length (x .words))
 abbrev pub Sound : Lent → Type 0
 Sound x = Empty x ⊎ Started x
 
--- an arrival that is fresh leaves the rule's next record
+-- an arrival that is fresh is accepted as the rule says
 pub record Accepts (x : Lent) (a : Arrival) (y : Lent) : Type 0 where
   pub started : Started y
   pub accepted-is : meaning y ≡ accept (meaning x) a
+
+-- an arrival judged v, fresh or known, is counted and answered as the rule says, over the same words
+pub record Acks (x : Lent) (v : Verdict) (a : Arrival) (r : Stepped) : Type 0 where
+  pub started : Started (lent (r .«record») (x .words))
+  pub counted-is : meaning (lent (r .«record») (x .words)) ≡ counted (meaning x) a
+  pub answer-is : r .answer ≡ answer.Acked v (sack-of (counted (meaning x) a) a)
 
 -- an arrival is answered r, and the words after it are ws
 pub record Arrives (x : Lent) (a : Arrival) (r : Stepped) (ws : List ℕ) : Type 0 where

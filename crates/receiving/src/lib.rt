@@ -7,7 +7,7 @@ ghost use Rattle.lists.specs.Index.{First};
 ghost use Rattle.row.specs.Row.{at, is-clear};
 ghost use Rattle.rules.specs.Receiver.{nack-of, reason-of, sack-of, verdict};
 ghost use Rattle.rules.specs.declared.Verdict.the-variants.{Fresh};
-ghost use Rattle.receiving.specs.Lent.{lent, meaning, Started, Sound, Accepts, Arrives};
+ghost use Rattle.receiving.specs.Lent.{lent, meaning, Started, Sound, Accepts, Acks, Arrives};
 use psn::HALF;
 use psn::Psn;
 use psn::TURN;
@@ -125,7 +125,7 @@ impl Head {
         Head {
             room,
             expected: expected.after(t - s),
-            count: std::num::wrapping_add_u32(self.count, a.size as u32),
+            count: self.count,
         }
     }
 
@@ -154,6 +154,23 @@ impl Head {
             entropy: a.entropy,
             rtx: allowed::flag(a.flags, RTX),
             mark: allowed::flag(a.flags, ECN),
+        }
+    }
+
+    // A packet that was just accepted, or is known: its size is counted, and a SACK answers it.
+    fn acked(self, words: &[u64], v: Verdict, a: Arrival) -> Stepped
+        requires { ⌜ Started (lent self (now words)) ⌝ }
+        ensures { λ r. ⌜ Acks (lent self (now (words .entry))) v a r ⌝ }
+    {
+        let expected = self.expected;
+        let head = Head {
+            room: self.room,
+            expected,
+            count: std::num::wrapping_add_u32(self.count, a.size as u32),
+        };
+        Stepped {
+            answer: Answer::Acked(v, head.sack(words, a)),
+            record: head,
         }
     }
 
@@ -188,16 +205,10 @@ impl Head {
         let v = self.judge(words, a);
         if let Verdict::Fresh = v {
             let head = self.accept(words, a);
-            return Stepped {
-                answer: Answer::Acked(v, head.sack(words, a)),
-                record: head,
-            };
+            return head.acked(words, v, a);
         }
         if let Verdict::Known = v {
-            return Stepped {
-                answer: Answer::Acked(v, self.sack(words, a)),
-                record: self,
-            };
+            return self.acked(words, v, a);
         }
         Stepped {
             answer: Answer::Nacked(v, nack(v, a)),

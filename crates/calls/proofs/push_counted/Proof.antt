@@ -5,23 +5,13 @@ use Prim.Native.Nat.{ℕ}
 use Rattle.receiver.specs.declared.Receiver.{Receiver}
 use Rattle.receiver.specs.Record.{lent-of, Sound}
 use Rattle.receiving.specs.Lent.{Started}
+use Rattle.receiving.proofs.Counting.{with-count, with-count-started}
 use borrow.Author.Needs.{needs}
 use Rattle.calls.proofs.push_counted.Statement.{statement}
 use Rattle.calls.proofs.push_counted.Tie as tie
 
--- the count is not spoken of
-counted : (x : Receiver) (n : ℕ) → Sound x → (x .room ≡ 0 → ⊥)
-    → Started (lent-of (record { room = x .room; expected = x .expected; words = x .words; count = n }))
-counted x n s used =
-    ⊎-elim (λ e. absurd (used (ap (λ (y : Receiver). y .room) e)))
-    (λ t. record {
-      room-good = t .room-good;
-      expected-low = t .expected-low;
-      enough = t .enough;
-      before = t .before;
-      expected-open = t .expected-open;
-      past = t .past;
-    }) s
+counted : (x : Receiver) (n : ℕ) → Sound x → (x .room ≡ 0 → ⊥) → Started (with-count (lent-of x) n)
+counted x n s used = ⊎-elim (λ e. absurd (used (ap (λ (y : Receiver). y .room) e))) (with-count-started (lent-of x) n) s
 
 start-requires : tie.Need-start-requires
 start-requires c κs = search needs

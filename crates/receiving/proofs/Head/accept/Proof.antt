@@ -61,32 +61,25 @@ sub-after c =
 after-requires : tie.Need-after-requires
 after-requires c κs = search needs
 
-cast-wrapping-add-u32 : tie.Need-cast-wrapping-add-u32
-cast-wrapping-add-u32 c = search needs
-
-wrapping-add-u32-requires : tie.Need-wrapping-add-u32-requires
-wrapping-add-u32-requires c κs = search needs
-
 same-length : tie.Need-same-length
 same-length c = search needs
 
 returns : tie.Need-returns
 returns c =
-    let moved = c .before .before .after in
-    let shed = c .before .before .before .before .before in
+    let moved = c .after in
+    let shed = c .before .before .before in
     let found = shed .before .before in
     let set = found .before .before .before .before in
     let d = set .before .before in
     let e = entry d in
-    let count = c .wrapping-add-u32 in
     record {
       started =
           accept-started (lent-at e) (e .pre .0) (d .distance .result) (inside d) (set .set .last .0) (set .set .ensures)
-          (found .lowest-open .result) (found .lowest-open .ensures) (shed .shed .last .0) (shed .shed .ensures) (moved .result) (moved .ensures) (count .result);
+          (found .lowest-open .result) (found .lowest-open .ensures) (shed .shed .last .0) (shed .shed .ensures) (moved .result) (moved .ensures);
       accepted-is =
           accept-means (lent-at e) (e .pre .0) (d .distance .result) (inside d) (set .set .last .0) (set .set .ensures)
-          (found .lowest-open .result) (found .lowest-open .ensures) (shed .shed .last .0) (shed .shed .ensures) (moved .result) (moved .ensures) (count .result)
-          (e .args .a) (d .distance .ensures) (count .ensures);
+          (found .lowest-open .result) (found .lowest-open .ensures) (shed .shed .last .0) (shed .shed .ensures) (moved .result) (moved .ensures)
+          (e .args .a) (d .distance .ensures);
     }
 
 pub accept-spec : {M : Type 1} → statement M
@@ -102,7 +95,5 @@ accept-spec =
     shed-requires
     sub-after
     after-requires
-    cast-wrapping-add-u32
-    wrapping-add-u32-requires
     same-length
     returns)

@@ -10,8 +10,9 @@ use borrow.Author.Needs.{needs}
 use Rattle.promise.specs.Outcome.{Refusals}
 use Rattle.promise.proofs.Refusing.{Past, test, number, past, none-left}
 use Rattle.promise.proofs.Meeting.{returns-at, does}
-use Rattle.rules.specs.Receiver.{Receiver, verdict, judged, accept, sack-of, nack-of}
+use Rattle.rules.specs.Receiver.{Receiver, verdict, accept, counted, sack-of, nack-of, acked, judged}
 use Rattle.rules.specs.Receiving.{arrive, arrive-refusals}
+use Rattle.rules.specs.declared.Verdict.{Verdict}
 use Rattle.rules.specs.declared.Verdict.the-variants.{Fresh, Known}
 use Rattle.rules.specs.declared.Answer.the-variants as answer
 use Rattle.rules.proofs.Settled.{on-refusal}
@@ -158,15 +159,16 @@ accept-requires c κs =
     let v = c .before .before .before in
     (started (v .before .before), sym (v .judge .ensures) ∙ c .before .enum-told .given .1)
 
-sack-requires : tie.Need-sack-requires
-sack-requires c κs = search needs
+acked-requires : tie.Need-acked-requires
+acked-requires c κs = search needs
 
 same-length : tie.Need-same-length
 same-length c = search needs
 
 returns-5 : tie.Need-returns-5
-unfolding judged
+unfolding judged acked
 returns-5 c =
+    let acks = c .acked .ensures in
     let accepted = c .before .before .before .before .accept .ensures in
     let told = c .before .before .before .before .before .before in
     let fresh = told .enum-told .given .1 in
@@ -174,32 +176,36 @@ returns-5 c =
     let e = from-verdict v in
     let a = e .args .a in
     let r = meaning (lent-at e) in
-    let sack = c .sack .ensures ∙ ap (λ (s : Receiver). sack-of s a) (accepted .accepted-is) in
+    let r′ = counted (accept r a) a in
+    let next = ap (λ (s : Receiver). counted s a) (accepted .accepted-is) in
     record {
-      meets = does (accept r a) (answer.Acked Fresh (sack-of (accept r a) a)) (passes v ∙ ap (judged r a) fresh) (ap₂ answer.Acked fresh sack)
-          (accepted .accepted-is) (inr (accepted .started));
+      meets = does r′ (answer.Acked Fresh (sack-of r′ a)) (passes v ∙ ap (judged r a) fresh)
+          (acks .answer-is ∙ ap₂ answer.Acked fresh (ap (λ (s : Receiver). sack-of s a) next)) (acks .counted-is ∙ next) (inr (acks .started));
       long = search needs;
     }
 
 enum-told-2 : tie.Need-enum-told-2
 enum-told-2 c = search needs
 
-sack-requires-2 : tie.Need-sack-requires-2
-sack-requires-2 c κs = started (c .before .before .before .before .before .before)
+acked-requires-2 : tie.Need-acked-requires-2
+acked-requires-2 c κs = started (c .before .before .before .before .before .before)
 
 same-length-2 : tie.Need-same-length-2
 same-length-2 c = search needs
 
 returns-6 : tie.Need-returns-6
-unfolding judged
+unfolding judged acked
 returns-6 c =
+    let acks = c .acked2 .ensures in
     let known = c .before .before .enum-told2 .given .1 in
     let v = c .before .before .before .before .before in
     let e = from-verdict v in
     let a = e .args .a in
     let r = meaning (lent-at e) in
+    let r′ = counted r a in
     record {
-      meets = does r (answer.Acked Known (sack-of r a)) (passes v ∙ ap (judged r a) known) (ap₂ answer.Acked known (c .sack2 .ensures)) refl (e .pre);
+      meets = does r′ (answer.Acked Known (sack-of r′ a)) (passes v ∙ ap (judged r a) known)
+          (acks .answer-is ∙ ap (λ (u : Verdict). answer.Acked u (sack-of r′ a)) known) (acks .counted-is) (inr (acks .started));
       long = refl;
     }
 
@@ -241,11 +247,11 @@ arrive-spec =
     judge-requires
     enum-told
     accept-requires
-    sack-requires
+    acked-requires
     same-length
     returns-5
     enum-told-2
-    sack-requires-2
+    acked-requires-2
     same-length-2
     returns-6
     nack-requires
