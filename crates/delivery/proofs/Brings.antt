@@ -10,7 +10,7 @@ use Rattle.lists.proofs.Joined.{and-true-each}
 use Rattle.rules.specs.Numbers.{turn, after, size-ok, flags-ok, trimmed, trimmed-last-hop, no-buffer}
 use Rattle.promise.specs.Outcome.{unless, left}
 use Rattle.rules.specs.Paper.{answered}
-use Rattle.rules.specs.Receiver.{Receiver, judge, known, beyond, verdict, judged}
+use Rattle.rules.specs.Receiver.{Receiver, judge, known, beyond, verdict, acked, judged}
 use Rattle.rules.specs.Receiving.{arrive-refusals, arrive}
 use Rattle.rules.specs.Receiving as receiving
 use Rattle.rules.specs.declared.Arrival.{Arrival}
@@ -75,7 +75,7 @@ module _ (s : Start) {w : World} (run : Run (begin s) w) (p : Packet) (there : L
 
   judged-whole : (k b : Bool) → judge false false k b false ≡ verdict r a
       → let o = judged r a (verdict r a) in Answered w (reply (with-receiver rules w (left r o)) (p .number) (message (answered o))) (p .number)
-  unfolding judge judged left answered message accepts reply with-receiver
+  unfolding judge judged acked left answered message accepts reply with-receiver
   judged-whole true b e = rw (← e) (_, record { about-is = refl; accepting = _; sack = _; reply-is = refl }, refl)
   judged-whole false true e = absurd (never-beyond s w run p there near f (sym e))
   judged-whole false false e = rw (← e) (_, record { about-is = refl; accepting = _; sack = _; reply-is = refl }, refl)

@@ -13,7 +13,8 @@ use Rattle.word.specs.Word.{bit-at}
 use Rattle.rules.specs.Numbers.{turn, half, after, distance, size-ok, flags-ok}
 use Rattle.promise.specs.Outcome.{Outcome, unless, left}
 use Rattle.rules.specs.Paper.{answered}
-use Rattle.rules.specs.Receiver.{Receiver, judge, known, verdict, accept, sack-of, judged}
+use Rattle.rules.specs.Receiver.{Receiver, judge, known, verdict, accept, counted, sack-of, judged}
+use Rattle.rules.specs.Receiver as receiver
 use Rattle.rules.specs.Receiving.{arrive-refusals, arrive}
 use Rattle.rules.specs.Sending.{step}
 use Rattle.rules.specs.declared.Arrival.{Arrival}
@@ -129,7 +130,7 @@ module _ {s : Start} {w : World} (I : Inv s w) (p : Packet) (there : List·Mem�
       omega (arith, not-ahead I, at-sent, I .keeps .next-is, I .keeps .room-left, room-few (s .send-room) (s .send-good))
 
   arrive-acked : (b : Bool) → among (w .accepted) (p .number) ≡ b → Acked w (rule-arrive w p clean) (p .number)
-  unfolding rule-arrive on-arrive noted acceptance arrival clean plain bit-at reply message answered left judged accepts among plus with-receiver
+  unfolding rule-arrive on-arrive noted acceptance arrival clean plain bit-at reply message answered left judged receiver.acked accepts among plus with-receiver
   arrive-acked true e =
       let r = w .receiving in
       let i = p .number in
@@ -139,7 +140,7 @@ module _ {s : Start} {w : World} (I : Inv s w) (p : Packet) (there : List·Mem�
       subst (λ (q : ℕ). arrive r (plain q z) ≡ judged r (plain q z) Known) (sym (I .carried p there .psn-is))
       (known-arrives (I .holds) i z (size-good I p there) (past I i is e) (omega (arith, near))) in
       subst (λ (o : Outcome Answer Receiver). Acked w (reply (with-receiver rules w (left r o)) i (message (answered o))) i) (sym met)
-      (acked w r (w .accepted) i false (sack-of r a) e)
+      (acked w (counted r a) (w .accepted) i false (sack-of (counted r a) a) e)
   arrive-acked false e =
       let r = w .receiving in
       let i = p .number in
@@ -150,7 +151,7 @@ module _ {s : Start} {w : World} (I : Inv s w) (p : Packet) (there : List·Mem�
       subst (λ (q : ℕ). arrive r (plain q z) ≡ judged r (plain q z) Fresh) (sym (I .carried p there .psn-is))
       (plain-arrives (I .holds) i z (size-good I p there) e (omega (arith, not-ahead I, room-some (s .receive-room) (s .receive-good)))) in
       subst (λ (o : Outcome Answer Receiver). Acked w (reply (with-receiver rules w (left r o)) i (message (answered o))) i) (sym met)
-      (acked w (accept r a) (i ∷ w .accepted) i true (sack-of (accept r a) a) (plus-same i i (among (w .accepted)) refl))
+      (let r′ : Receiver = counted (accept r a) a in acked w r′ (i ∷ w .accepted) i true (sack-of r′ a) (plus-same i i (among (w .accepted)) refl))
 
   onward : (v : World) × Onward w v
   onward =

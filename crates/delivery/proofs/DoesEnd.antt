@@ -12,7 +12,7 @@ use Rattle.rules.specs.Sender.{outstanding}
 use Rattle.delivery.specs.Wire.{Note}
 use Rattle.delivery.specs.Network.{Start, still, then}
 use Rattle.delivery.specs.Rules.{Run, begin}
-use Rattle.delivery.specs.Promise.{lossless, retired-at}
+use Rattle.delivery.specs.Promise.{lossless, compared, retired-at}
 use Rattle.delivery.specs.Progress.{Retired, behind, ahead, marked-at, Resends, Sacks, Course, Diligent, Tried, Through, Fair, DoesEnd, Settles}
 use Rattle.delivery.proofs.Invariant.{Inv, invariant}
 use Rattle.delivery.proofs.Retires.{Grows, grows-self, grows-on, grows-next, retires}
@@ -145,7 +145,7 @@ settles s c diligent fair t same =
           let K = inv-at c v .keeps in
           let none : outstanding (c .at v .sending) ≡ 0 = omega (arith, K .next-is, E .2 v h, ap length sent) in
           let P = delivers s (c .at v) (run-to c v) in
-          let end : (c .at v .sending ≡ lossless s (c .at v .sent) .0) × (c .at v .receiving ≡ lossless s (c .at v .sent) .1) =
+          let end : (c .at v .sending ≡ lossless s (c .at v .sent) .0) × (compared (c .at v .receiving) ≡ compared (lossless s (c .at v .sent) .1)) =
           P .in-the-end (λ k p. absurd (omega arith)) in
-          (end .0 ∙ ap (λ (l : List ℕ). lossless s l .0) sent, end .1 ∙ ap (λ (l : List ℕ). lossless s l .1) sent),
+          (end .0 ∙ ap (λ (l : List ℕ). lossless s l .0) sent, end .1 ∙ ap (λ (l : List ℕ). compared (lossless s l .1)) sent),
     )

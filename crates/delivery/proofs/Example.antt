@@ -6,6 +6,7 @@ use mathlib.Core.List.{[], _∷_, map, List·Memᴰ·head, List·Memᴰ·tail}
 use Prim.Native.Nat.{ℕ, _<_}
 use native.Mathlib.Omega.{arith}
 use lib.ListN.{length, getD}
+use Rattle.lists.specs.Lists.{sum}
 use Rattle.rules.specs.Numbers.{psn}
 use Rattle.rules.specs.Sender.{outstanding}
 use Rattle.rules.specs.Retire.{is-retired}
@@ -15,7 +16,7 @@ use Rattle.delivery.specs.Wire.{Packet, Fate, arrival, Acks, Nacks, hear
 use Rattle.delivery.specs.Network.{Start, put, acceptance, reply, size-of, with-sender, with-receiver, on-send, again, on-resend, on-arrive, still}
 use Rattle.delivery.specs.Network as net
 use Rattle.delivery.specs.Rules.{World, Run, begin}
-use Rattle.delivery.specs.Promise.{Promise, lossless, retired-at}
+use Rattle.delivery.specs.Promise.{Promise, lossless, compared, adds, received, retired-at}
 use Rattle.delivery.specs.Progress.{Course, Diligent, Fair}
 use Rattle.delivery.proofs.Effects.{rule-send, rule-resend, rule-timer, rule-hear, rule-arrive}
 use Rattle.delivery.proofs.Effects.{run-send, run-resend, run-timer, run-hear, run-arrive}
@@ -155,20 +156,25 @@ unfolding opened.rules network s whole trimmed p0 p1 p2 p3 w5 w10 note w12 w14
 half-way = (refl, refl, refl, refl, refl)
 
 twice : note w20 0 .reply
-    ≡ Acks false (record { cack = psn 2; block = record { base = psn 3; bitmap = 0 }; count = 5; mpr = 0; entropy = 7; rtx = false; mark = false })
+    ≡ Acks false (record { cack = psn 2; block = record { base = psn 3; bitmap = 0 }; count = 7; mpr = 0; entropy = 7; rtx = false; mark = false })
 unfolding opened.rules network s whole trimmed retried p0 p1 p2 p3 p4 w5 w10 note w12 w14 w17 w19 w20
 twice = refl
 
 the-end : (w21 .low ≡ 5) × (w21 .sending .entries ≡ []) × (w21 .sending .place ≡ 2) × (w21 .accepted ≡ (4 ∷ 1 ∷ 0 ∷ 3 ∷ 2 ∷ []))
-    × (w21 .receiving .expected ≡ 3) × (w21 .receiving .count ≡ 1500)
+    × (w21 .receiving .expected ≡ 3)
 unfolding opened.rules network s whole trimmed retried p0 p1 p2 p3 p4 w5 w10 note w12 w14 w17 w19 w20 w21
-the-end = (refl, refl, refl, refl, refl, refl)
+the-end = (refl, refl, refl, refl, refl)
+
+-- the third and the first came twice, 400 bytes more than were sent; the trimmed one does not count
+bytes : (w21 .receiving .count ≡ 1900) × (received (w21 .sent) (w21 .notes) ≡ 1900) × (sum (w21 .sent) ≡ 1500)
+unfolding opened.rules network s whole trimmed retried p0 p1 p2 p3 p4 w5 w10 note w12 w14 w17 w19 w20 w21 adds received
+bytes = (refl, refl, refl)
 
 -- demand 3 speaks of it
 kept : Promise s w21
 kept = delivers s w21 run21
 
-alike : (w21 .sending ≡ lossless s (w21 .sent) .0) × (w21 .receiving ≡ lossless s (w21 .sent) .1)
+alike : (w21 .sending ≡ lossless s (w21 .sent) .0) × (compared (w21 .receiving) ≡ compared (lossless s (w21 .sent) .1))
 alike = kept .in-the-end nothing
   where
     nothing : (k : ℕ) → k < outstanding (w21 .sending) → retired-at (w21 .sending) k ≡ true

@@ -15,7 +15,7 @@ use Rattle.psn.proofs.Circle.{after-zero, after-after, ahead, lands}
 use Rattle.word.specs.Word.{bit-at}
 use Rattle.rules.specs.Numbers.{turn, half, after, before, distance, trimmed, trimmed-last-hop, no-buffer}
 use Rattle.lists.specs.Lists.{lead}
-use Rattle.rules.specs.Receiver.{Receiver, room, unused, fresh, judge, known, beyond, verdict, accept, block-at, block, sack-of}
+use Rattle.rules.specs.Receiver.{Receiver, room, unused, fresh, judge, known, beyond, verdict, accept, counted, block-at, block, sack-of}
 use Rattle.rules.specs.declared.Arrival.{Arrival}
 use Rattle.rules.specs.declared.Sack.{Sack}
 use Rattle.rules.specs.declared.Verdict.the-variants.{Fresh, Known}
@@ -82,15 +82,20 @@ module _ {s : Start} {A : ℕ → Bool} {r : Receiver} {at : ℕ} (H : Holds s A
     pub accept-few : lead (set (r .window) d true) < turn
     accept-few = omega (arith, lead-le entered, length-set (r .window) d true, H .room-is, room-few (s .receive-room) (s .receive-good))
 
+-- the count is no part of it
+pub counted-holds : {s : Start} {A : ℕ → Bool} {r : Receiver} {at : ℕ} → Holds s A r at → (a : Arrival) → Holds s A (counted r a) at
+unfolding counted
+counted-holds H a = record { expected-is = H .expected-is; room-is = H .room-is; window-is = H .window-is; missing = H .missing }
+
 -- ---- what a fresh verdict says
-judge-fresh : (t l k b n : Bool) → judge t l k b n ≡ Fresh → (t ≡ false) × (l ≡ false) × (k ≡ false) × (b ≡ false)
+judge-fresh : (t l k b n : Bool) → judge t l k b n ≡ Fresh → (k ≡ false) × (b ≡ false)
 unfolding judge
-judge-fresh true l k b n e = (cc, cc, cc, cc)
-judge-fresh false true k b n e = (cc, cc, cc, cc)
-judge-fresh false false true b n e = (cc, cc, cc, cc)
-judge-fresh false false false true n e = (cc, cc, cc, cc)
-judge-fresh false false false false true e = (cc, cc, cc, cc)
-judge-fresh false false false false false e = (refl, refl, refl, refl)
+judge-fresh true l k b n e = (cc, cc)
+judge-fresh false true k b n e = (cc, cc)
+judge-fresh false false true b n e = (cc, cc)
+judge-fresh false false false true n e = (cc, cc)
+judge-fresh false false false false true e = (cc, cc)
+judge-fresh false false false false false e = (refl, refl)
 
 judge-known : (t l k b n : Bool) → judge t l k b n ≡ Known → k ≡ true
 unfolding judge
@@ -109,8 +114,6 @@ pub record Unknown (A : ℕ → Bool) (r : Receiver) (at i : ℕ) (p : ℕ) : Ty
 pub record Newcomer (s : Start) (A : ℕ → Bool) (r : Receiver) (at i : ℕ) (a : Arrival) : Type 0 where
   pub unknown : Unknown A r at i (a .psn .0)
   pub inside : distance (r .expected) (a .psn .0) < s .receive-room
-  pub whole : trimmed (a .flags) ≡ false
-  pub whole-last : trimmed-last-hop (a .flags) ≡ false
 
 module _ {s : Start} {A : ℕ → Bool} {r : Receiver} {at : ℕ} (H : Holds s A r at) where
   pub not-known : (i p : ℕ) → p ≡ after (s .first) i → Near i at → known r p ≡ false → Unknown A r at i p
@@ -128,10 +131,8 @@ module _ {s : Start} {A : ℕ → Bool} {r : Receiver} {at : ℕ} (H : Holds s A
       let d : ℕ = distance (r .expected) (a .psn .0) in
       let f = judge-fresh (trimmed (a .flags)) (trimmed-last-hop (a .flags)) (known r (a .psn .0)) (leb (room r) d) (no-buffer (a .flags)) e in
       record {
-        unknown = not-known i (a .psn .0) is near (f .2);
-        inside = omega (arith, leb-false (room r) d (f .3), H .room-is);
-        whole = f .0;
-        whole-last = f .1;
+        unknown = not-known i (a .psn .0) is near (f .0);
+        inside = omega (arith, leb-false (room r) d (f .1), H .room-is);
       }
 
   -- what is known is accepted
@@ -160,6 +161,10 @@ pub record Tells (s : Start) (A : ℕ → Bool) (here : ℕ) (k : Sack) : Type 0
 pub data Says (here : ℕ) (k : Sack) (i : ℕ) : Type 0 where
   before-here : i < here → Says here k i
   in-block : (j : ℕ) → j < 64 → i ≡ base-number here k + j → bit-at (k .block .bitmap) j ≡ true → Says here k i
+
+pub says-accepted : {s : Start} {A : ℕ → Bool} {here : ℕ} {k : Sack} {i : ℕ} → Tells s A here k → Says here k i → A i ≡ true
+says-accepted {i = i} T (before-here h) = T .to-cack i h
+says-accepted {A = A} T (in-block j l is e) = ap A is ∙ T .bits j e
 
 -- a bit is an entry of the window
 take-true : (n : ℕ) (l : List Bool) (i : ℕ) → getD (take n l) i false ≡ true → getD l i false ≡ true

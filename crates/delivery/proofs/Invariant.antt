@@ -1,5 +1,5 @@
--- What holds in every world of a run: both records, the histories and the bytes counted all speak of the one set of packets accepted.
--- Each event keeps it. Assumes nothing.
+-- What holds in every world of a run: both records and the histories all speak of the one set of packets accepted, and the bytes counted
+-- are those of the arrivals that a SACK answered. Each event keeps it. Assumes nothing.
 use mathlib.Core.Path.{_≡_, refl, sym, ap, ap₂, _∙_, subst}
 use mathlib.Core.Bool.{Bool, true, false, cond, _||_, false≢true}
 use mathlib.Core.List.{List, [], _∷_, _++_, List·Memᴰ, List·Memᴰ·head, List·Memᴰ·tail, List·Memᴰ·cases-cons, List·Memᴰ·not-nil}
@@ -10,11 +10,11 @@ use native.Mathlib.Nat.{mod-add-mod}
 use native.Mathlib.Decide.{ℕ-discrete, decLt}
 use lib.ListN.{length, set}
 use borrow.Author.Tests.{leb-false, not-false}
-use Rattle.rules.specs.Numbers.{turn, after, distance, psn, size-ok, reason-ok, trimmed, trimmed-last-hop}
+use Rattle.rules.specs.Numbers.{turn, after, distance, psn, size-ok, reason-ok, trimmed, trimmed-last-hop, no-buffer}
 use Rattle.lists.specs.Lists.{lead, update}
 use Rattle.promise.specs.Outcome.{Outcome, left}
-use Rattle.rules.specs.Paper.{answered}
-use Rattle.rules.specs.Receiver.{Receiver, verdict, accept, sack-of, reason-of, nack-of, judged}
+use Rattle.rules.specs.Paper.{code, answered}
+use Rattle.rules.specs.Receiver.{Receiver, judge, known, beyond, verdict, accept, counted, sack-of, reason-of, nack-of, acked, judged}
 use Rattle.rules.specs.Receiving.{arrive}
 use Rattle.rules.specs.Receiving as receiving
 use Rattle.rules.specs.Receiver as receiver
@@ -38,13 +38,14 @@ use Rattle.delivery.specs.Network.{Start, with-sender, put, on-send, siz
 use Rattle.delivery.specs.Network.{Next, sends, resends, timers, hears, arrives, beside-sender, beside-receiver, still, then}
 use Rattle.delivery.specs.Network as network
 use Rattle.delivery.specs.Rules.{given, rules, World, Run, begin}
-use Rattle.delivery.specs.Promise.{among, Once}
+use Rattle.delivery.specs.Promise.{among, Once, adds, received}
 use Rattle.delivery.proofs.Effects.{rule-send, rule-resend, rule-timer, rule-hear, noted, rule-arrive}
 use Rattle.delivery.proofs.Rooms.{room-few}
 use Rattle.delivery.proofs.Places.{moved, stays}
 use Rattle.delivery.proofs.Sets.{at-least, plus, plus-same, plus-other, plus-more}
-use Rattle.delivery.proofs.Bytes.{Sizes, total, total-plus, total-older, size-of-older, size-of-newest, size-sent}
-use Rattle.delivery.proofs.Holds.{Holds, fresh-holds, accept-holds, accept-few, Newcomer, newcomer, known-accepted, Tells, sack-tells, Says, sack-says}
+use Rattle.delivery.proofs.Bytes.{Sizes, size-of-older, size-of-newest, size-sent, received-same}
+use Rattle.delivery.proofs.Holds.{Holds, fresh-holds, accept-holds, accept-few, counted-holds, Newcomer, newcomer, known-accepted}
+use Rattle.delivery.proofs.Holds.{Tells, sack-tells, Says, sack-says, says-accepted}
 use Rattle.delivery.proofs.Keeps.{Keeps, nth-is, Quiet, quiet-self, quiet-update, quiet-timer, quiet-nack, keeps-quiet}
 use Rattle.delivery.proofs.Keeps.{keeps-more, keeps-send, next-number, keeps-sack, place-moves, fresh-rests, rest-keeps}
 
@@ -91,11 +92,17 @@ told-more s A B n m more h note (Acks b k) T =
     }
 told-more s A B n m more h note (Nacks k) T = record { psn-is = T .psn-is; was-sent = omega (arith, T .was-sent); reason-good = T .reason-good }
 
+-- the packet that a reply answers was sent
+answers-sent : (s : Start) (A : ℕ → Bool) (n : ℕ) → ((i : ℕ) → A i ≡ true → i < n) → (note : Note) (q : Reply) → Told s A n note q → note .about < n
+unfolding Told
+answers-sent s A n bound note (Acks b k) T = bound (note .about) (says-accepted (T .tells) (T .says))
+answers-sent s A n bound note (Nacks k) T = T .was-sent
+
 pub record Inv (s : Start) (w : World) : Type 0 where
   pub holds : Holds s (among (w .accepted)) (w .receiving) (w .at)
   pub keeps : Keeps s (among (w .accepted)) (length (w .sent)) (w .sending) (w .low)
   pub bound : (i : ℕ) → among (w .accepted) i ≡ true → i < length (w .sent)
-  pub counted : w .receiving .count ≡ total (among (w .accepted)) (w .sent) % 2 ^ 32
+  pub counted : w .receiving .count ≡ received (w .sent) (w .notes) % 2 ^ 32
   pub once : Once (w .accepted)
   pub sizes : Sizes (w .sent)
   pub carried : (p : Packet) → List·Memᴰ p (w .wire) → Carries s (w .sent) p
@@ -103,7 +110,7 @@ pub record Inv (s : Start) (w : World) : Type 0 where
   pub told : (n : Note) → List·Memᴰ n (w .notes) → Told s (among (w .accepted)) (length (w .sent)) n (n .reply)
 
 inv-begin : (s : Start) → Inv s (begin s)
-unfolding begin network.begin receiver.fresh sender.fresh among total Once All
+unfolding begin network.begin receiver.fresh sender.fresh among received Once All
 inv-begin s = record {
   holds = fresh-holds s (among []) (λ j. refl);
   keeps = subst (λ (x : Sender). Keeps s (among []) 0 x 0) (sym (fresh-rests s)) (rest-keeps s (among []) 0 (λ i h. absurd (omega arith)));
@@ -181,18 +188,17 @@ module _ {s : Start} {w : World} (I : Inv s w) where
   inv-goes : (x : Sender) (l : List ℕ) (packet : ℕ → Packet) (q : ℕ)
       → Keeps s (among (w .accepted)) (length l) x (w .low + distance (w .sending .place) (x .place))
       → length (w .sent) ≤ length l
-      → total (among (w .accepted)) l ≡ total (among (w .accepted)) (w .sent)
       → Sizes l
       → ((i : ℕ) → i < length (w .sent) → size-of l i ≡ size-of (w .sent) i)
       → Carries s l (packet q)
       → ((i : ℕ) → i < length l → length (w .sent) ≤ i → packet q .number ≡ i)
       → Inv s (put (with-sender rules w x) l packet (Goes q))
   unfolding put with-sender
-  inv-goes x l packet q K longer bytes sizes older C newer = record {
+  inv-goes x l packet q K longer sizes older C newer = record {
     holds = I .holds;
     keeps = K;
     bound = λ i e. omega (arith, I .bound i e);
-    counted = I .counted ∙ ap (λ (t : ℕ). t % 2 ^ 32) (sym bytes);
+    counted = I .counted ∙ ap (λ (t : ℕ). t % 2 ^ 32) (sym (received-same l (w .sent) (w .notes) same-size));
     once = I .once;
     sizes = sizes;
     carried = λ p m. carried p (List·Memᴰ·cases-cons m);
@@ -203,6 +209,9 @@ module _ {s : Start} {w : World} (I : Inv s w) where
     told = λ n m. told-more s _ _ (length (w .sent)) (length l) (λ j e. e) longer n (n .reply) (I .told n m);
   }
     where
+      same-size : (n : Note) → List·Memᴰ n (w .notes) → size-of l (n .about) ≡ size-of (w .sent) (n .about)
+      same-size n m = older (n .about) (answers-sent s _ _ (I .bound) n (n .reply) (I .told n m))
+
       carried : (p : Packet) → (p ≡ packet q) ⊎ List·Memᴰ p (w .wire) → Carries s l p
       carried p (inl e) = subst (Carries s l) (sym e) C
       carried p (inr m) =
@@ -221,7 +230,7 @@ module _ {s : Start} {w : World} (I : Inv s w) where
       let room = past .1 .1 .0 in
       inv-goes y (z ∷ w .sent) packet (next x)
       (rw (stays (w .low) (x .place) (y .place) refl) (keeps-send (I .keeps) z (leb-false _ _ room))) (omega arith)
-      (total-older (among (w .accepted)) z (w .sent) not-yet) (not-false (size-ok z) good, I .sizes) (size-of-older z (w .sent))
+      (not-false (size-ok z) good, I .sizes) (size-of-older z (w .sent))
       (record { psn-is = next-number (I .keeps); was-sent = omega arith; size-is = sym (size-of-newest z (w .sent)) })
       (λ i h k. omega arith)
 
@@ -241,7 +250,7 @@ module _ {s : Start} {w : World} (I : Inv s w) where
       ap (λ (d : ℕ). w .low + d) (moved (s .first) (w .low) o _ _ first (nth-is (I .keeps) o) small) in
       inv-goes y (w .sent) (again rules w) (nth x o)
       (rw (stays (w .low) (x .place) (y .place) (Q .place-same)) (keeps-quiet (I .keeps) y Q)) (omega arith)
-      refl (I .sizes) (λ i h. refl)
+      (I .sizes) (λ i h. refl)
       (record { psn-is = nth-is (I .keeps) o ∙ ap (after (s .first)) (sym i-is); was-sent = omega (arith, I .keeps .next-is); size-is = refl })
       (λ i h k. absurd (omega arith))
 
@@ -249,9 +258,20 @@ module _ {s : Start} {w : World} (I : Inv s w) where
 pub size-whole : (t l : Bool) (a b : ℕ) → t ≡ false → l ≡ false → cond (t || l) a b ≡ b
 size-whole t l a b p q = rw (p, q)
 
-accept-count : (r : Receiver) (a : Arrival) → accept r a .count ≡ (r .count + a .size) % 2 ^ 32
-unfolding accept
-accept-count r a = refl
+-- a packet that is answered 0 or 1 was not trimmed, and has its own size
+judge-whole : (t l k b n : Bool) → code (judge t l k b n) < 2 → (t ≡ false) × (l ≡ false)
+unfolding judge code
+judge-whole true l k b n h = absurd (omega arith)
+judge-whole false true k b n h = absurd (omega arith)
+judge-whole false false k b n h = (refl, refl)
+
+pub uncut : (r : Receiver) (p : Packet) (f : Fate) → code (verdict r (arrival p f)) < 2 → arrival p f .size ≡ p .size
+unfolding verdict arrival
+uncut r p f h =
+    let t : Bool = trimmed (f .flags) in
+    let l : Bool = trimmed-last-hop (f .flags) in
+    let W = judge-whole t l (known r (p .psn)) (beyond r (p .psn)) (no-buffer (f .flags)) h in
+    size-whole t l (f .cut) (p .size) (W .0) (W .1)
 
 module _ {s : Start} {w : World} (I : Inv s w) where
   here-still : w .at + distance (w .receiving .expected) (w .receiving .expected) ≡ w .at
@@ -271,21 +291,27 @@ module _ {s : Start} {w : World} (I : Inv s w) where
     told = I .told;
   }
 
-  inv-noted : (r : Receiver) (l : List ℕ) (i : ℕ) (m : Reply)
-      → Holds s (among l) r (w .at + distance (w .receiving .expected) (r .expected))
-      → ((j : ℕ) → among (w .accepted) j ≡ true → among l j ≡ true)
-      → ((j : ℕ) → among l j ≡ true → j < length (w .sent))
-      → r .count ≡ total (among l) (w .sent) % 2 ^ 32
-      → Once l
+  -- a record r that holds the packets l, with those that are accepted already among them
+  record Accepting (r : Receiver) (l : List ℕ) : Type 0 where
+    holds : Holds s (among l) r (w .at + distance (w .receiving .expected) (r .expected))
+    more : (j : ℕ) → among (w .accepted) j ≡ true → among l j ≡ true
+    bound : (j : ℕ) → among l j ≡ true → j < length (w .sent)
+    once : Once l
+
+  as-it-was : Accepting (w .receiving) (w .accepted)
+  as-it-was = record { holds = rw here-still (I .holds); more = λ j e. e; bound = I .bound; once = I .once }
+
+  inv-noted : (r : Receiver) (l : List ℕ) (i : ℕ) (m : Reply) → Accepting r l
+      → r .count ≡ (received (w .sent) (w .notes) + adds m (size-of (w .sent) i)) % 2 ^ 32
       → Told s (among l) (length (w .sent)) (record { reply = m; here = w .at + distance (w .receiving .expected) (r .expected); about = i }) m
       → Inv s (noted (with-receiver rules w r) l i m)
-  unfolding noted with-receiver
-  inv-noted r l i m H more bound counted once T = record {
-    holds = H;
-    keeps = keeps-more (I .keeps) (among l) more;
-    bound = bound;
+  unfolding noted with-receiver received
+  inv-noted r l i m K counted T = record {
+    holds = K .holds;
+    keeps = keeps-more (I .keeps) (among l) (K .more);
+    bound = K .bound;
     counted = counted;
-    once = once;
+    once = K .once;
     sizes = I .sizes;
     carried = I .carried;
     on-wire = I .on-wire;
@@ -296,24 +322,39 @@ module _ {s : Start} {w : World} (I : Inv s w) where
           → (n ≡ record { reply = m; here = w .at + distance (w .receiving .expected) (r .expected); about = i }) ⊎ List·Memᴰ n (w .notes)
           → Told s (among l) (length (w .sent)) n (n .reply)
       told n (inl e) = subst (λ (y : Note). Told s (among l) (length (w .sent)) y (y .reply)) (sym e) T
-      told n (inr y) = told-more s (among (w .accepted)) (among l) (length (w .sent)) (length (w .sent)) more (omega arith) n (n .reply) (I .told n y)
+      told n (inr y) = told-more s (among (w .accepted)) (among l) (length (w .sent)) (length (w .sent)) (K .more) (omega arith) n (n .reply) (I .told n y)
 
-  -- nothing is accepted
-  inv-same : (i : ℕ) (m : Reply)
-      → Told s (among (w .accepted)) (length (w .sent)) (record { reply = m; here = w .at; about = i }) m
-      → Inv s (noted (with-receiver rules w (w .receiving)) (w .accepted) i m)
-  inv-same i m T = inv-noted (w .receiving) (w .accepted) i m (rw here-still (I .holds)) (λ j e. e) (I .bound) (I .counted) (I .once) (rw here-still T)
+  -- a NACK leaves the record as it was
+  inv-nacked : (i : ℕ) (k : Nack) → Names s (length (w .sent)) i k → Inv s (noted (with-receiver rules w (w .receiving)) (w .accepted) i (Nacks k))
+  unfolding Told adds
+  inv-nacked i k N = inv-noted (w .receiving) (w .accepted) i (Nacks k) as-it-was (I .counted ∙ ap (λ (t : ℕ). t % 2 ^ 32) (omega arith)) N
 
   module _ (p : Packet) (C : Carries s (w .sent) p) (near : Near (p .number) (w .at)) (f : Fate) where
-    inv-fresh : verdict (w .receiving) (arrival p f) ≡ Fresh
-        → Inv s (noted (with-receiver rules w (accept (w .receiving) (arrival p f))) (p .number ∷ w .accepted) (p .number)
-        (Acks true (sack-of (accept (w .receiving) (arrival p f)) (arrival p f))))
-    unfolding arrival Told among plus Once
+    abbrev i : ℕ
+    i = p .number
+
+    abbrev a : Arrival
+    a = arrival p f
+
+    -- a SACK: the packet is among those that r holds, and its size is counted
+    inv-acked : (v : Verdict) → verdict (w .receiving) a ≡ v → code v < 2 → (b : Bool) (r : Receiver) (l : List ℕ)
+        → Accepting r l → among l i ≡ true → r .count ≡ w .receiving .count
+        → Inv s (noted (with-receiver rules w (counted r a)) l i (Acks b (sack-of (counted r a) a)))
+    unfolding Told adds arrival counted
+    inv-acked v e low b r l K there same =
+        let size : a .size ≡ size-of (w .sent) i = uncut (w .receiving) p f (subst (λ (u : Verdict). code u < 2) (sym e) low) ∙ C .size-is in
+        let H = counted-holds (K .holds) a in
+        inv-noted (counted r a) l i _ (record { holds = H; more = K .more; bound = K .bound; once = K .once })
+        (ap₂ (λ (x y : ℕ). (x + y) % 2 ^ 32) (same ∙ I .counted) size ∙ mod-add-mod (received (w .sent) (w .notes)) (2 ^ 32) (size-of (w .sent) i))
+        (record { tells = sack-tells H a; says = sack-says H i a (C .psn-is) there })
+
+    inv-fresh : verdict (w .receiving) a ≡ Fresh
+        → let r = counted (accept (w .receiving) a) a in
+        Inv s (noted (with-receiver rules w r) (i ∷ w .accepted) i (Acks true (sack-of r a)))
+    unfolding arrival accept among plus Once code
     inv-fresh e =
-        let i : ℕ = p .number in
         let A : ℕ → Bool = among (w .accepted) in
         let r : Receiver = w .receiving in
-        let a : Arrival = arrival p f in
         let d : ℕ = distance (r .expected) (p .psn) in
         let r′ : Receiver = accept r a in
         let k : ℕ = lead (set (r .window) d true) in
@@ -323,33 +364,34 @@ module _ {s : Start} {w : World} (I : Inv s w) where
         let few : k < turn = accept-few (I .holds) a (N .inside) in
         let here : w .at + distance (r .expected) (r′ .expected) ≡ w .at + k =
         ap (λ (x : ℕ). w .at + x) (moved (s .first) (w .at) k (r .expected) (r′ .expected) (I .holds .expected-is) (H .expected-is) few) in
-        let size : a .size ≡ size-of (w .sent) i =
-        size-whole (trimmed (f .flags)) (trimmed-last-hop (f .flags)) (f .cut) (p .size) (N .whole) (N .whole-last) ∙ C .size-is in
-        inv-noted r′ (i ∷ w .accepted) i _ (rw here H)
-        (λ j q. plus-more i j A q)
-        (λ j q. elim (ℕ-discrete i j) [ yes y ↦ omega (arith, C .was-sent) | no y ↦ I .bound j (sym (plus-other i j A y) ∙ q) ])
-        (accept-count r a ∙ ap₂ (λ (x y : ℕ). (x + y) % 2 ^ 32) (I .counted) size ∙ mod-add-mod (total A (w .sent)) (2 ^ 32) (size-of (w .sent) i)
-        ∙ ap (λ (x : ℕ). x % 2 ^ 32) (sym (total-plus A i (w .sent) (C .was-sent) (N .unknown .absent))))
-        (N .unknown .absent, I .once)
-        (rw here (record { tells = sack-tells H a; says = sack-says H i a (C .psn-is) (plus-same i i A refl) }))
+        inv-acked Fresh e (omega arith) true r′ (i ∷ w .accepted)
+        (record {
+          holds = rw here H;
+          more = λ j q. plus-more i j A q;
+          bound = λ j q. elim (ℕ-discrete i j) [ yes y ↦ omega (arith, C .was-sent) | no y ↦ I .bound j (sym (plus-other i j A y) ∙ q) ];
+          once = (N .unknown .absent, I .once);
+        })
+        (plus-same i i A refl) refl
 
-    names : (v : Verdict) → reason-ok (reason-of v) ≡ true → Names s (length (w .sent)) (p .number) (nack-of v (arrival p f))
+    inv-known : verdict (w .receiving) a ≡ Known
+        → let r = counted (w .receiving) a in Inv s (noted (with-receiver rules w r) (w .accepted) i (Acks false (sack-of r a)))
+    unfolding arrival code
+    inv-known e =
+        inv-acked Known e (omega arith) false (w .receiving) (w .accepted) as-it-was (known-accepted (I .holds) i a (C .psn-is) near e) refl
+
+    names : (v : Verdict) → reason-ok (reason-of v) ≡ true → Names s (length (w .sent)) i (nack-of v a)
     unfolding nack-of arrival
     names v good = record { psn-is = C .psn-is; was-sent = C .was-sent; reason-good = good }
 
-    inv-judged : (v : Verdict) → verdict (w .receiving) (arrival p f) ≡ v
-        → let o = judged (w .receiving) (arrival p f) v in Inv s (reply (with-receiver rules w (left (w .receiving) o)) (p .number) (message (answered o)))
-    unfolding arrival judged left answered message accepts reply acceptance noted with-receiver Told reason-of reason-ok
+    inv-judged : (v : Verdict) → verdict (w .receiving) a ≡ v
+        → let o = judged (w .receiving) a v in Inv s (reply (with-receiver rules w (left (w .receiving) o)) i (message (answered o)))
+    unfolding judged acked left answered message accepts reply acceptance noted with-receiver reason-of reason-ok
     inv-judged Fresh e = inv-fresh e
-    inv-judged Known e =
-        let a : Arrival = arrival p f in
-        let i : ℕ = p .number in
-        let K = known-accepted (I .holds) i a (C .psn-is) near e in
-        inv-same i _ (record { tells = sack-tells (I .holds) a; says = sack-says (I .holds) i a (C .psn-is) K })
-    inv-judged Beyond e = inv-same (p .number) _ (names Beyond refl)
-    inv-judged NoBuffer e = inv-same (p .number) _ (names NoBuffer refl)
-    inv-judged Trim e = inv-same (p .number) _ (names Trim refl)
-    inv-judged TrimLastHop e = inv-same (p .number) _ (names TrimLastHop refl)
+    inv-judged Known e = inv-known e
+    inv-judged Beyond e = inv-nacked i _ (names Beyond refl)
+    inv-judged NoBuffer e = inv-nacked i _ (names NoBuffer refl)
+    inv-judged Trim e = inv-nacked i _ (names Trim refl)
+    inv-judged TrimLastHop e = inv-nacked i _ (names TrimLastHop refl)
 
     inv-arrive : Inv s (rule-arrive w p f)
     unfolding rule-arrive on-arrive arrive left answered message reply

@@ -10,7 +10,7 @@ use borrow.Author.Tests.{lt-leb}
 use Rattle.rules.specs.Numbers.{after, size-ok}
 use Rattle.promise.specs.Outcome.{unless, left}
 use Rattle.rules.specs.Paper.{answered}
-use Rattle.rules.specs.Receiver.{Receiver, accept, sack-of, judged}
+use Rattle.rules.specs.Receiver.{Receiver, accept, counted, sack-of, acked, judged}
 use Rattle.rules.specs.Receiving.{arrive}
 use Rattle.rules.specs.Sender.{Sender, with-entries, new, sent}
 use Rattle.rules.specs.Sending.{send-refusals, send, sack, step}
@@ -90,12 +90,13 @@ module _ (s : Start) where
     one-more : (x : Sender) (r : Receiver) → x ≡ rest s n → Holds s (only n all) r n
         → Holds s (only (suc n) all) (left r (arrive r (plain (after (s .first) n) z))) (suc n)
         → heard (left x (send x z)) (message (answered (arrive r (plain (after (s .first) n) z)))) ≡ rest s (suc n)
-    unfolding left heard hearing step message answered accepts judged
+    unfolding left heard hearing step message answered accepts judged acked
     one-more x r rests H G =
         let a : Arrival = plain (after (s .first) n) z in
         let met = plain-arrives H n z good (only-out n all n (omega arith)) (omega (arith, room-some (s .receive-room) (s .receive-good))) in
-        let F : Holds s (only (suc n) all) (accept r a) (suc n) = rw met at G in
-        rw (rests, send-one, met) (sack-one (sack-of (accept r a) a) (sack-tells F a))
+        let r′ : Receiver = counted (accept r a) a in
+        let F : Holds s (only (suc n) all) r′ (suc n) = rw met at G in
+        rw (rests, send-one, met) (sack-one (sack-of r′ a) (sack-tells F a))
 
   pub lossless-sender : (l : List ℕ) → Sizes l → lossless s l .0 ≡ rest s (length l)
   unfolding lossless All

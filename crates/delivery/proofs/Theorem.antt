@@ -1,6 +1,6 @@
 -- Demand 3: what holds in every world of a run is what is promised. Once nothing is unretired all are accepted, which leaves both records
 -- as the run without loss does. Assumes nothing.
-use mathlib.Core.Path.{_≡_, refl, sym, ap₂, _∙_}
+use mathlib.Core.Path.{_≡_, refl, sym, ap, ap₂, _∙_}
 use mathlib.Core.Bool.{Bool, true, cond, false≢true}
 use mathlib.Core.List.{List, [], _∷_}
 use Prim.Native.Nat.{ℕ, _<_}
@@ -14,7 +14,7 @@ use Rattle.rules.specs.Receiving.{arrive}
 use Rattle.rules.specs.Sender.{outstanding}
 use Rattle.delivery.specs.Network.{Start}
 use Rattle.delivery.specs.Rules.{World}
-use Rattle.delivery.specs.Promise.{among, plain, ascending, lossless, retired-at, Delivers}
+use Rattle.delivery.specs.Promise.{among, plain, ascending, lossless, compared, retired-at, Delivers}
 use Rattle.delivery.proofs.Sets.{all}
 use Rattle.delivery.proofs.Keeps.{keeps-rests}
 use Rattle.delivery.proofs.Invariant.{Inv, invariant}
@@ -29,8 +29,8 @@ ascending-same s A B (z ∷ l) h =
     (h (length l) (omega arith)) (ascending-same s A B l (λ j p. h j (omega arith)))
 
 module _ {s : Start} {w : World} (I : Inv s w) where
-  in-order : w .receiving ≡ ascending s (among (w .accepted)) (w .sent)
-  in-order = in-ascending-order (I .holds) (w .sent) (I .sizes) (I .bound) (I .counted)
+  in-order : compared (w .receiving) ≡ compared (ascending s (among (w .accepted)) (w .sent))
+  in-order = in-ascending-order (I .holds) (w .sent) (I .sizes) (I .bound)
 
   module _ (done : (k : ℕ) → k < outstanding (w .sending) → retired-at (w .sending) k ≡ true) where
     nothing-left : outstanding (w .sending) ≡ 0
@@ -40,10 +40,10 @@ module _ {s : Start} {w : World} (I : Inv s w) where
     unfolding all
     all-accepted j h = I .keeps .below j (omega (arith, I .keeps .next-is, nothing-left))
 
-    in-the-end : (w .sending ≡ lossless s (w .sent) .0) × (w .receiving ≡ lossless s (w .sent) .1)
+    in-the-end : (w .sending ≡ lossless s (w .sent) .0) × (compared (w .receiving) ≡ compared (lossless s (w .sent) .1))
     in-the-end = (
       keeps-rests (I .keeps) nothing-left ∙ sym (lossless-sender s (w .sent) (I .sizes)),
-      in-order ∙ ascending-same s (among (w .accepted)) all (w .sent) all-accepted ∙ sym (lossless-receiver s (w .sent)),
+      in-order ∙ ap compared (ascending-same s (among (w .accepted)) all (w .sent) all-accepted ∙ sym (lossless-receiver s (w .sent))),
     )
 
 pub delivers : Delivers
@@ -59,5 +59,6 @@ delivers s w run =
       retired-before = I .keeps .below;
       retired-ahead = I .keeps .ahead;
       in-order = in-order I;
+      counted = I .counted;
       in-the-end = in-the-end I;
     }

@@ -12,7 +12,7 @@ use Rattle.rules.specs.declared.Sack.{Sack}
 use Rattle.delivery.specs.Wire.{Packet, Fate, Acks, Note}
 use Rattle.delivery.specs.Network.{Start, Next, sends, resends, timers, hears, arrives, beside-sender, beside-receiver}
 use Rattle.delivery.specs.Rules.{rules, World, Run, begin}
-use Rattle.delivery.specs.Promise.{lossless, retired-at}
+use Rattle.delivery.specs.Promise.{lossless, compared, retired-at}
 
 -- packet i is retired: it lies before place + 1, or is retired ahead of it
 pub data Retired (w : World) (i : ℕ) : Type 0 where
@@ -142,7 +142,7 @@ abbrev pub Settles : Type 0
 Settles =
     (s : Start) (c : Course s) → Diligent c → Fair c → (t : ℕ) → ((v : ℕ) → t ≤ v → c .at v .sent ≡ c .at t .sent)
     → (u : ℕ) × ((v : ℕ) → u ≤ v
-    → (c .at v .sending ≡ lossless s (c .at t .sent) .0) × (c .at v .receiving ≡ lossless s (c .at t .sent) .1))
+    → (c .at v .sending ≡ lossless s (c .at t .sent) .0) × (compared (c .at v .receiving) ≡ compared (lossless s (c .at t .sent) .1)))
 
 -- such courses there are: every run goes on in one, so neither claim is empty
 abbrev pub GoesOn : Type 0

@@ -2,7 +2,7 @@
 use mathlib.Core.Path.{_≡_}
 use mathlib.Core.Bool.{Bool, true, false, cond, _||_}
 use mathlib.Core.List.{List, [], _∷_, map}
-use Prim.Native.Nat.{ℕ, _+_, _<_}
+use Prim.Native.Nat.{ℕ, _+_, _%_, _^_, _<_}
 use lib.Dec.{eqb}
 use lib.ListN.{length, getD}
 use Rattle.rules.specs.Numbers.{after, before, psn}
@@ -16,9 +16,9 @@ use Rattle.rules.specs.Sender as sender
 use Rattle.rules.specs.Sending.{send, step}
 use Rattle.rules.specs.Retire.{is-retired}
 use Rattle.rules.specs.declared.Arrival.{Arrival}
-use Rattle.delivery.specs.Network.{Start, opening, Sides, Worlds, meant}
+use Rattle.delivery.specs.Network.{Start, opening, size-of, Sides, Worlds, meant}
 use Rattle.delivery.specs.Network as network
-use Rattle.delivery.specs.Wire.{Message, Silent, Goes, Replies, message, hearing}
+use Rattle.delivery.specs.Wire.{Reply, Acks, Nacks, hearing, Message, Silent, Goes, Replies, message, Note}
 use Rattle.delivery.specs.Rules.{World, Run, begin}
 
 -- is i among the numbers
@@ -56,6 +56,22 @@ lossless s (z ∷ l) =
     let o = arrive (y .1) (plain (after (s .first) (length l)) z) in
     (heard (left (y .0) (send (y .0) z)) (message (answered o)), left (y .1) o)
 
+-- ---- 02, No. 4: "Demand 3 no longer compares the count; instead the count is the sum over the history of those sizes, modulo 2 to the 32"
+-- what is compared of a receiver's record: the expected PSN, and the window, whose length is the room
+abbrev pub compared : Receiver → ℕ × List Bool
+compared r = (r .expected, r .window)
+
+-- "every arrival answered 0 or 1 adds its size": these are the ones that a SACK answers
+unfoldable pub adds : Reply → ℕ → ℕ
+adds (Acks b k) z = z
+adds (Nacks k) z = 0
+
+-- those sizes over the history of arrivals, each of which has its reply there unless it was refused; such an arrival has the size that
+-- its packet was sent with (`OwnSize` of Sense)
+unfoldable pub received : List ℕ → List Note → ℕ
+received sent [] = 0
+received sent (n ∷ l) = received sent l + adds (n .reply) (size-of sent (n .about))
+
 -- whether entry k of the sender is retired
 abbrev pub retired-at : Sender → ℕ → Bool
 retired-at x k = getD (map is-retired (x .entries)) k false
@@ -74,10 +90,12 @@ pub record Promise (s : Start) (w : World) : Type 0 where
   pub retired-before : (i : ℕ) → i < w .low → among (w .accepted) i ≡ true
   pub retired-ahead : (k : ℕ) → retired-at (w .sending) k ≡ true → among (w .accepted) (w .low + k) ≡ true
   -- "the receiver's record is the one left by its accepted packets coming once each in ascending order"
-  pub in-order : w .receiving ≡ ascending s (among (w .accepted)) (w .sent)
+  pub in-order : compared (w .receiving) ≡ compared (ascending s (among (w .accepted)) (w .sent))
+  -- "the count is the sum over the history of those sizes, modulo 2 to the 32"
+  pub counted : w .receiving .count ≡ received (w .sent) (w .notes) % 2 ^ 32
   -- "Once the sender has nothing unretired, both records equal those of a run of the same packets, one at a time and without loss"
   pub in-the-end : ((k : ℕ) → k < outstanding (w .sending) → retired-at (w .sending) k ≡ true)
-      → (w .sending ≡ lossless s (w .sent) .0) × (w .receiving ≡ lossless s (w .sent) .1)
+      → (w .sending ≡ lossless s (w .sent) .0) × (compared (w .receiving) ≡ compared (lossless s (w .sent) .1))
 
 -- demand 3, of the rules' own two sides
 abbrev pub Delivers : Type 0

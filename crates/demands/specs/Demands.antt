@@ -74,7 +74,8 @@ pub record Demand2 : Type 0 where
       → Bytes log → Reads log place (Record slot e kind next) → next - place ≤ length before → Writes slot e before r after
       → (r ≡ Length (next - place)) × (after ≡ take (next - place) (drop place log) ++ drop (next - place) before)
 
--- Its premises are `Start` and `Run` of delivery's Network and Wire, its conclusions `Promise` of delivery's Promise.
+-- Its premises are `Start` and `Run` of delivery's Network and Wire, its conclusions `Promise` of delivery's Promise; 02, No. 4 amends them:
+-- the count is not compared, and is the sum of all that came.
 pub record Demand3 : Type 0 where
   -- of the rules' own sender and receiver, in every run
   pub rules : Delivers
