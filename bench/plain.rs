@@ -171,7 +171,6 @@ impl Receiver {
             return nacked(Verdict::NoBuffer, 4, a);
         }
         self.accepted[j] |= 1 << b;
-        self.count = self.count.wrapping_add(a.size as u32);
         if d == 0 {
             self.advance();
         }
@@ -191,8 +190,10 @@ impl Receiver {
         }
     }
 
+    /// Its size is counted, and a SACK answers it.
     #[inline(always)]
-    fn acked(&self, v: Verdict, a: Arrival) -> Answer {
+    fn acked(&mut self, v: Verdict, a: Arrival) -> Answer {
+        self.count = self.count.wrapping_add(a.size as u32);
         let d = a.psn.wrapping_sub(self.expected) % TURN;
         let base = if d < self.room { (self.expected + d / 64 * 64) % TURN } else { self.expected };
         let (j, b) = spot(base);

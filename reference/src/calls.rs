@@ -9,7 +9,7 @@
 //!     5 fill    the first a bytes become b
 //!     6 read    at place b of the first a bytes
 //!     7 write   kind c with the fields and slot b into the first a bytes
-//!     8 count   a receiver started at PSN a with its count set to b; then an arrival of a with size c, and flags and entropy of the fields
+//!     8 count   a receiver started at PSN a with its count set to b; then an arrival with size c, and flags, entropy and PSN of the fields
 //!     9 lent    the same over lent words
 
 use crate::generate::Chance;
@@ -30,8 +30,8 @@ const OPS: [(&str, &[&str]); 9] = [
     ("fill", &["bytes", "byte"]),
     ("read", &["bytes", "place"]),
     ("write", &["bytes", "slot"]),
-    ("count", &["first", "count", "size", "flags", "entropy"]),
-    ("lent", &["first", "count", "size", "flags", "entropy"]),
+    ("count", &["first", "count", "size", "flags", "entropy", "psn"]),
+    ("lent", &["first", "count", "size", "flags", "entropy", "psn"]),
 ];
 
 const TAKES_EVENT: [u64; 2] = [1, 7];
@@ -277,23 +277,24 @@ fn write(buffer: &mut [u8], slot: u8, kind: usize, fields: &[u64], seen: &mut Se
 
 /// Ops 8 and 9.
 fn counted(call: &Call, seen: &mut Seen) -> Option<Vec<u64>> {
-    let [op, first, count, size, flags, entropy, ..] = *call;
+    let [op, first, count, size, flags, entropy, psn, _] = *call;
     let name = OPS[op as usize - 1].0;
     let first = u32::try_from(first).ok()?;
     let count = u32::try_from(count).ok()?;
     let size = u16::try_from(size).ok()?;
     let flags = u8::try_from(flags).ok()?;
     let entropy = u32::try_from(entropy).ok()?;
+    let psn = u32::try_from(psn).ok()?;
     if first >= TURN {
         saw(seen, format!("{name}: start refused 5"));
         return Some(vec![5, 0]);
     }
     let mut receiver = Receiver::new(64, first);
     receiver.bytes = count;
-    let outcome = receiver.arrive(first, size, flags, entropy);
+    let outcome = if psn < TURN { receiver.arrive(psn, size, flags, entropy) } else { Err(5) };
     saw(seen, format!("{name}: {}", judged(&outcome)));
     if receiver.bytes < count {
-        saw(seen, format!("{name}: wraps"));
+        saw(seen, format!("{name}: {} wraps", judged(&outcome)));
     }
     Some([numbers(4, &outcome), receiver.record()].concat())
 }
@@ -355,12 +356,12 @@ pub fn reachable() -> Vec<String> {
         add(format!("read {what}"));
     }
     for name in ["count", "lent"] {
-        for what in ["start refused 5", "refused 6", "refused 14", "wraps"] {
+        for what in ["start refused 5", "refused 5", "refused 6", "refused 14"] {
             add(format!("{name}: {what}"));
         }
-        for judgement in [0, 3, 4, 5] {
-            add(format!("{name}: {}", judgements[judgement]));
-        }
+        judgements.iter().for_each(|judgement| add(format!("{name}: {judgement}")));
+        // fresh and known
+        judgements[..2].iter().for_each(|judgement| add(format!("{name}: {judgement} wraps")));
     }
     all
 }
@@ -603,7 +604,13 @@ pub fn sequence(seed: u64, i: usize) -> Vec<Call> {
                     1 => chance.below((1 << 32) + 9),
                     _ => chance.pick(&[0, 255, 256, u32::MAX.into(), 1 << 32]),
                 };
-                script.call([8 + chance.below(2), near(chance, first, 64), count, some_size(chance), some_flags(chance), chance.below(1 << 32), 0, 0]);
+                let begun = near(chance, first, 64);
+                let psn = match chance.below(4) {
+                    0 => begun,
+                    1 => on(begun as u32, TURN - 1 - chance.below(64) as u32).into(),
+                    _ => near(chance, begun as u32, 64),
+                };
+                script.call([8 + chance.below(2), begun, count, some_size(chance), some_flags(chance), chance.below(1 << 32), psn, 0]);
             }
             16..=18 => a_log(chance, &mut script, first),
             19 if chance.one_in(4) => {

@@ -155,21 +155,23 @@ type Seen = BTreeMap<(usize, u64), u64>;
 const BUFFER: usize = 65_536;
 const LONG: (usize, u64) = (usize::MAX, 0);
 const STRIDE: usize = usize::MAX - 1;
+const COUNTED: (usize, u64) = (usize::MAX - 2, 4);
 
-/// What must be met at least once for so many logs: a text longer than two of the program's buffers, which it writes when they are full; and a
-/// move over more than a word, of E by an arrival and of the place by a SACK.
+/// What must be met at least once for so many logs: a text longer than two of the program's buffers, which it writes when they are full; a move
+/// over more than a word, of E by an arrival and of the place by a SACK; and a repeat that is seen to be counted.
 const ONE_IN: u64 = 200;
-const RARE: [((usize, u64), &str); 3] = [
+const RARE: [((usize, u64), &str); 4] = [
     (LONG, "texts of more than two buffers"),
     ((STRIDE, 4), "arrivals that move E by more than 64"),
     ((STRIDE, 5), "SACKs that move the place by more than 64"),
+    (COUNTED, "known arrivals that raise count / 256"),
 ];
 
 /// Has the command replay log i of a seed, which must make its records again from its own words.
 fn compare_one(i: usize, seed: u64, command: &[String], seen: &mut Seen) {
     let log = generate::log(seed, i);
-    // by slot and kind, where E and the place stand: one behind
-    let mut ends = BTreeMap::new();
+    // by slot and kind, where E and the place stand: one behind; and by slot the count / 256 of the last SACK
+    let (mut ends, mut counts) = (BTreeMap::new(), BTreeMap::new());
     let last = log::replay(&log, |record, outcome| {
         let answer = match outcome {
             Err(number) => u64::from(*number),
@@ -182,12 +184,16 @@ fn compare_one(i: usize, seed: u64, command: &[String], seen: &mut Seen) {
             (1, Ok(_)) => {
                 ends.insert((record.slot, 4), (record.fields[3] + turn - 1) % turn);
                 ends.insert((record.slot, 5), (record.fields[1] + turn - 1) % turn);
+                counts.insert(record.slot, 0);
             }
             (4, Ok(done)) if done.values[0] > 1 => {}
             (kind @ (4 | 5), Ok(done)) => {
                 let end = ends.insert((record.slot, kind), done.values[1]).expect("a slot in use was started");
                 if (done.values[1] + turn - end) % turn > 64 {
                     *seen.entry((STRIDE, kind as u64)).or_default() += 1;
+                }
+                if kind == 4 && counts.insert(record.slot, done.values[4]) < Some(done.values[4]) && done.values[0] == 1 {
+                    *seen.entry(COUNTED).or_default() += 1;
                 }
             }
             _ => {}

@@ -1,4 +1,4 @@
-//! The two sides of a connection, from document 01: packet numbers are kept in ordered maps and sets, one entry each.
+//! The two sides of a connection, from document 01 with request No. 4 of document 02: packet numbers are kept in ordered maps and sets, one entry each.
 
 use std::collections::{BTreeMap, BTreeSet};
 
@@ -98,11 +98,12 @@ impl Receiver {
         }
         if !known {
             self.ahead.insert(psn);
-            self.bytes = self.bytes.wrapping_add(size.into());
             while self.ahead.remove(&self.expected) {
                 self.expected = on(self.expected, 1);
             }
         }
+        // No. 4: a repeat is counted as well
+        self.bytes = self.bytes.wrapping_add(size.into());
         let (base, bitmap) = self.block(psn);
         let cack = on(self.expected, TURN - 1);
         let values = vec![known.into(), cack.into(), base.into(), bitmap, (self.bytes / 256).into(), entropy.into(), rtx, u64::from(flags & 1)];

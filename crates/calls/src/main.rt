@@ -531,9 +531,15 @@ fn push_lent(out: &mut [u8], at: usize, r: Receiver, a: Arrival) -> usize
     )
 }
 
-// A receiver of the least room that has just started at an arrival's packet number, with this count; then the arrival, by value or over lent words.
-fn push_counted(out: &mut [u8], at: usize, a: Arrival, count: u32, lent: bool) -> usize {
-    let first = a.psn;
+// A receiver of the least room that has just started, with this count; then an arrival, by value or over lent words.
+fn push_counted(
+    out: &mut [u8],
+    at: usize,
+    first: Psn,
+    a: Arrival,
+    count: u32,
+    lent: bool,
+) -> usize {
     let begun = Receiver::start(Opening { room: 64, first });
     let answer = begun.answer;
     let r = begun.record;
@@ -555,16 +561,20 @@ fn push_counted(out: &mut [u8], at: usize, a: Arrival, count: u32, lent: bool) -
     push_arrived(out, at, counted, a)
 }
 
-// Ops 8 and 9: a receiver started at packet number a, its count set to b, and an arrival of a with size c, flags and entropy.
+// Ops 8 and 9: a receiver started at packet number a, its count set to b, and an arrival with size c, flags, entropy and packet number.
 fn arrive_call(call: [u64; NUMBERS], out: &mut [u8], at: usize, lent: bool) -> usize {
-    if !has_event([1, 0, 0, 4, call[1], call[3], call[4], call[5]]) {
+    if !has_event([1, 0, 0, 4, call[6], call[3], call[4], call[5]]) {
+        return unknown(out, at);
+    }
+    if MOST_32 < call[1] {
         return unknown(out, at);
     }
     if MOST_32 < call[2] {
         return unknown(out, at);
     }
-    let a = arrival(call[1], call[3], call[4], call[5]);
-    push_counted(out, at, a, low_32(call[2]), lent)
+    let first = Psn(low_32(call[1]));
+    let a = arrival(call[6], call[3], call[4], call[5]);
+    push_counted(out, at, first, a, low_32(call[2]), lent)
 }
 
 // A call that leaves the table as it is.
