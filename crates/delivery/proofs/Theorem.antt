@@ -1,5 +1,5 @@
--- Demand 3: what holds in every world of a run is what is promised. Once nothing is unretired all are accepted, which leaves both records
--- as the run without loss does. Assumes nothing.
+-- Demand 3: what holds in every world of a run is what is promised. Once nothing is unretired all are accepted, which leaves both records,
+-- but for the count, as the run without loss does. Assumes nothing.
 use mathlib.Core.Path.{_≡_, refl, sym, ap, ap₂, _∙_}
 use mathlib.Core.Bool.{Bool, true, cond, false≢true}
 use mathlib.Core.List.{List, [], _∷_}

@@ -137,7 +137,7 @@ abbrev pub DoesEnd : Type 0
 DoesEnd =
     (s : Start) (c : Course s) → Diligent c → Fair c → (t : ℕ) → (u : ℕ) × ((v : ℕ) → u ≤ v → length (c .at t .sent) ≤ c .at v .low)
 
--- and where nothing is sent after t, both records are in the end those of the run without loss
+-- and where nothing is sent after t, both records are in the end those of the run without loss, by what is compared of them
 abbrev pub Settles : Type 0
 Settles =
     (s : Start) (c : Course s) → Diligent c → Fair c → (t : ℕ) → ((v : ℕ) → t ≤ v → c .at v .sent ≡ c .at t .sent)

@@ -75,7 +75,7 @@ pub record Demand2 : Type 0 where
       → (r ≡ Length (next - place)) × (after ≡ take (next - place) (drop place log) ++ drop (next - place) before)
 
 -- Its premises are `Start` and `Run` of delivery's Network and Wire, its conclusions `Promise` of delivery's Promise; 02, No. 4 amends them:
--- the count is not compared, and is the sum of all that came.
+-- the receiver's count is not compared, and is the sum over the arrivals that a SACK answered.
 pub record Demand3 : Type 0 where
   -- of the rules' own sender and receiver, in every run
   pub rules : Delivers

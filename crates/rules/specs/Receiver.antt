@@ -1,4 +1,4 @@
--- 01, The receiving side.
+-- 01, The receiving side, as 02, No. 4 amends it.
 use mathlib.Core.Bool.{Bool, true, false, not, cond, _||_}
 use mathlib.Core.List.{List, [], _∷_}
 use Prim.Native.Nat.{ℕ, _+_, _*_, _/_, _%_, _^_}
