@@ -74,13 +74,13 @@ module _ (s : Start) {w : World} (run : Run (begin s) w) (p : Packet) (there : L
       )
 
   judged-whole : (k b : Bool) → judge false false k b false ≡ verdict r a
-      → let o = judged r a (verdict r a) in Answered w (reply (with-receiver rules w (left r o)) (p .number) (message (answered o))) (p .number)
+      → let o = judged r a (verdict r a) in Answered w (reply (with-receiver rules w (left r o)) (p .number) (arrival p f .size) (message (answered o))) (p .number)
   unfolding judge judged acked left answered message accepts reply with-receiver
   judged-whole true b e = rw (← e) (_, record { about-is = refl; accepting = _; sack = _; reply-is = refl }, refl)
   judged-whole false true e = absurd (never-beyond s w run p there near f (sym e))
   judged-whole false false e = rw (← e) (_, record { about-is = refl; accepting = _; sack = _; reply-is = refl }, refl)
 
-  answered-whole : let o = arrive r a in Answered w (reply (with-receiver rules w (left r o)) (p .number) (message (answered o))) (p .number)
+  answered-whole : let o = arrive r a in Answered w (reply (with-receiver rules w (left r o)) (p .number) (arrival p f .size) (message (answered o))) (p .number)
   unfolding verdict arrival
   answered-whole = rw taken (judged-whole (known r (p .psn)) (beyond r (p .psn)) (rw (W .not-trimmed, W .not-trimmed-last, W .buffered)))
 

@@ -109,10 +109,11 @@ record Acked (w v : World) (i : ℕ) : Type 0 where
   sent-same : v .sent ≡ w .sent
   accepted : among (v .accepted) i ≡ true
 
-acked : (w : World) (r : Receiver) (l : List ℕ) (i : ℕ) (b : Bool) (k : Sack) → among l i ≡ true → Acked w (noted (with-receiver rules w r) l i (Acks b k)) i
+acked : (w : World) (r : Receiver) (l : List ℕ) (i z : ℕ) (b : Bool) (k : Sack) → among l i ≡ true
+    → Acked w (noted (with-receiver rules w r) l i z (Acks b k)) i
 unfolding noted with-receiver
-acked w r l i b k e = record {
-  note = record { reply = Acks b k; here = w .at + distance (w .receiving .expected) (r .expected); about = i };
+acked w r l i z b k e = record {
+  note = record { reply = Acks b k; here = w .at + distance (w .receiving .expected) (r .expected); about = i; size = z };
   there = List·Memᴰ·head refl;
   accepting = b;
   answer = k;
@@ -139,8 +140,8 @@ module _ {s : Start} {w : World} (I : Inv s w) (p : Packet) (there : List·Mem�
       let met : arrive r a ≡ judged r a Known =
       subst (λ (q : ℕ). arrive r (plain q z) ≡ judged r (plain q z) Known) (sym (I .carried p there .psn-is))
       (known-arrives (I .holds) i z (size-good I p there) (past I i is e) (omega (arith, near))) in
-      subst (λ (o : Outcome Answer Receiver). Acked w (reply (with-receiver rules w (left r o)) i (message (answered o))) i) (sym met)
-      (acked w (counted r a) (w .accepted) i false (sack-of (counted r a) a) e)
+      subst (λ (o : Outcome Answer Receiver). Acked w (reply (with-receiver rules w (left r o)) i z (message (answered o))) i) (sym met)
+      (acked w (counted r a) (w .accepted) i z false (sack-of (counted r a) a) e)
   arrive-acked false e =
       let r = w .receiving in
       let i = p .number in
@@ -150,8 +151,8 @@ module _ {s : Start} {w : World} (I : Inv s w) (p : Packet) (there : List·Mem�
       let met : arrive r a ≡ judged r a Fresh =
       subst (λ (q : ℕ). arrive r (plain q z) ≡ judged r (plain q z) Fresh) (sym (I .carried p there .psn-is))
       (plain-arrives (I .holds) i z (size-good I p there) e (omega (arith, not-ahead I, room-some (s .receive-room) (s .receive-good)))) in
-      subst (λ (o : Outcome Answer Receiver). Acked w (reply (with-receiver rules w (left r o)) i (message (answered o))) i) (sym met)
-      (let r′ : Receiver = counted (accept r a) a in acked w r′ (i ∷ w .accepted) i true (sack-of r′ a) (plus-same i i (among (w .accepted)) refl))
+      subst (λ (o : Outcome Answer Receiver). Acked w (reply (with-receiver rules w (left r o)) i z (message (answered o))) i) (sym met)
+      (let r′ : Receiver = counted (accept r a) a in acked w r′ (i ∷ w .accepted) i z true (sack-of r′ a) (plus-same i i (among (w .accepted)) refl))
 
   onward : (v : World) × Onward w v
   onward =

@@ -26,18 +26,18 @@ unfoldable pub rule-hear : World → Note → World
 rule-hear w n = with-sender rules w (left (w .sending) (step (w .sending) (hearing (n .reply))))
 
 unfoldable pub rule-arrive : World → Packet → Fate → World
-rule-arrive w p f = let o = arrive (w .receiving) (arrival p f) in on-arrive rules w p (answered o) (left (w .receiving) o)
+rule-arrive w p f = let o = arrive (w .receiving) (arrival p f) in on-arrive rules w p f (answered o) (left (w .receiving) o)
 
 -- a world in which one more reply is noted, and the numbers accepted are l
-unfoldable pub noted : World → List ℕ → ℕ → Reply → World
-noted w l i r = record {
+unfoldable pub noted : World → List ℕ → ℕ → ℕ → Reply → World
+noted w l i z r = record {
   sending = w .sending;
   receiving = w .receiving;
   low = w .low;
   at = w .at;
   sent = w .sent;
   wire = w .wire;
-  notes = record { reply = r; here = w .at; about = i } ∷ w .notes;
+  notes = record { reply = r; here = w .at; about = i; size = z } ∷ w .notes;
   accepted = l;
 }
 

@@ -69,7 +69,7 @@ p4 = record { number = 4; psn = 2; size = 500 }
 
 -- reply i, the newest first
 note : World → ℕ → Note
-note w i = getD (w .notes) i (record { reply = Nacks (record { psn = psn 0; reason = 0; entropy = 0; rtx = false }); here = 0; about = 0 })
+note w i = getD (w .notes) i (record { reply = Nacks (record { psn = psn 0; reason = 0; entropy = 0; rtx = false }); here = 0; about = 0; size = 0 })
 
 -- five packets go out. The last is lost; the third comes twice and the fourth once, then the second trimmed, and the first
 w5 : World
@@ -166,7 +166,7 @@ unfolding opened.rules network s whole trimmed retried p0 p1 p2 p3 p4 w5 w10 not
 the-end = (refl, refl, refl, refl, refl)
 
 -- the third and the first came twice, 400 bytes more than were sent; the trimmed one does not count
-bytes : (w21 .receiving .count ≡ 1900) × (received (w21 .sent) (w21 .notes) ≡ 1900) × (sum (w21 .sent) ≡ 1500)
+bytes : (w21 .receiving .count ≡ 1900) × (received (w21 .notes) ≡ 1900) × (sum (w21 .sent) ≡ 1500)
 unfolding opened.rules network s whole trimmed retried p0 p1 p2 p3 p4 w5 w10 note w12 w14 w17 w19 w20 w21 adds received
 bytes = (refl, refl, refl)
 

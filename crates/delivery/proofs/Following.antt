@@ -67,11 +67,11 @@ module _ {n m : Sides} (F : Following n m) where
       e (h p)
   put-meant w u l packet same (Replies r) e h = e
 
-  reply-meant : (w : Worlds n) (u : Worlds m) (i : ℕ) (a : Message) → u ≡ through w → reply u i a ≡ through (reply w i a)
+  reply-meant : (w : Worlds n) (u : Worlds m) (i z : ℕ) (a : Message) → u ≡ through w → reply u i z a ≡ through (reply w i z a)
   unfolding reply meant
-  reply-meant w u i Silent e = e
-  reply-meant w u i (Goes p) e = e
-  reply-meant w u i (Replies r) e = ap (λ (u : Worlds m). reply u i (Replies r)) e
+  reply-meant w u i z Silent e = e
+  reply-meant w u i z (Goes p) e = e
+  reply-meant w u i z (Replies r) e = ap (λ (u : Worlds m). reply u i z (Replies r)) e
 
   put-kept : (w : Worlds n) (l : List ℕ) (packet : ℕ → Packet) (a : Message) → Kept w → Kept (put w l packet a)
   unfolding put
@@ -79,11 +79,11 @@ module _ {n m : Sides} (F : Following n m) where
   put-kept w l packet (Goes p) K = record { of-sender = K .of-sender; of-receiver = K .of-receiver }
   put-kept w l packet (Replies r) K = K
 
-  reply-kept : (w : Worlds n) (i : ℕ) (a : Message) → Kept w → Kept (reply w i a)
+  reply-kept : (w : Worlds n) (i z : ℕ) (a : Message) → Kept w → Kept (reply w i z a)
   unfolding reply
-  reply-kept w i Silent K = K
-  reply-kept w i (Goes p) K = K
-  reply-kept w i (Replies r) K = record { of-sender = K .of-sender; of-receiver = K .of-receiver }
+  reply-kept w i z Silent K = K
+  reply-kept w i z (Goes p) K = K
+  reply-kept w i z (Replies r) K = record { of-sender = K .of-sender; of-receiver = K .of-receiver }
 
   module _ (w : Worlds n) (x : n .sender .State) where
     sender-meant : with-sender m (through w) (F .sender .meaning x) ≡ through (with-sender n w x)
@@ -111,9 +111,9 @@ module _ {n m : Sides} (F : Following n m) where
     unfolding with-receiver meant
     receiver-meant = rw (← F .receiver .places (w .receiving), ← F .receiver .places r)
 
-    arrive-meant : (p : Packet) (a : Answer) → on-arrive m (through w) p a (F .receiver .meaning r) ≡ through (on-arrive n w p a r)
+    arrive-meant : (p : Packet) (f : Fate) (a : Answer) → on-arrive m (through w) p f a (F .receiver .meaning r) ≡ through (on-arrive n w p f a r)
     unfolding on-arrive
-    arrive-meant p a = reply-meant (with-receiver n w r) _ (p .number) (message a) receiver-meant
+    arrive-meant p f a = reply-meant (with-receiver n w r) _ (p .number) _ (message a) receiver-meant
 
     beside-receiver-meant : F .receiver .meaning r ≡ F .receiver .meaning (w .receiving) → through w ≡ through (with-receiver n w r)
     unfolding with-receiver meant
@@ -175,11 +175,11 @@ module _ {n m : Sides} (F : Following n m) where
         goes-on _ _ (sender-meant w x) (then (R .run) (hears k there near a _ (h .0))) (h .1)
 
     then-arrives : (p : Packet) → List·Memᴰ p (w .wire) → Near (p .number) (w .at) → (f : Fate) (a : Answer) (r : n .receiver .State)
-        → n .receiver .Steps (w .receiving) (Arrive (arrival p f)) a r → Followed v (on-arrive n w p a r)
+        → n .receiver .Steps (w .receiving) (Arrive (arrival p f)) a r → Followed v (on-arrive n w p f a r)
     unfolding meant on-arrive
     then-arrives p there near f a r g =
         let h = receiver-steps w (Arrive (arrival p f)) a r (R .kept) g in
-        goes-on _ _ (arrive-meant w r p a) (then (R .run) (arrives p there near f a _ (h .0))) (reply-kept (with-receiver n w r) (p .number) (message a) (h .1))
+        goes-on _ _ (arrive-meant w r p f a) (then (R .run) (arrives p there near f a _ (h .0))) (reply-kept (with-receiver n w r) (p .number) _ (message a) (h .1))
 
     then-beside-sender : (x : n .sender .State) → n .sender .Beside (w .sending) x → Followed v (with-sender n w x)
     then-beside-sender x g =

@@ -162,10 +162,6 @@ pub data Says (here : ℕ) (k : Sack) (i : ℕ) : Type 0 where
   before-here : i < here → Says here k i
   in-block : (j : ℕ) → j < 64 → i ≡ base-number here k + j → bit-at (k .block .bitmap) j ≡ true → Says here k i
 
-pub says-accepted : {s : Start} {A : ℕ → Bool} {here : ℕ} {k : Sack} {i : ℕ} → Tells s A here k → Says here k i → A i ≡ true
-says-accepted {i = i} T (before-here h) = T .to-cack i h
-says-accepted {A = A} T (in-block j l is e) = ap A is ∙ T .bits j e
-
 -- a bit is an entry of the window
 take-true : (n : ℕ) (l : List Bool) (i : ℕ) → getD (take n l) i false ≡ true → getD l i false ≡ true
 take-true zero l i h = absurd (false≢true h)

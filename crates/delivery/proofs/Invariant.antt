@@ -1,6 +1,6 @@
 -- What holds in every world of a run: both records and the histories all speak of the one set of packets accepted, and the bytes counted
 -- are those of the arrivals that a SACK answered. Each event keeps it. Assumes nothing.
-use mathlib.Core.Path.{_≡_, refl, sym, ap, ap₂, _∙_, subst}
+use mathlib.Core.Path.{_≡_, refl, sym, ap, _∙_, subst}
 use mathlib.Core.Bool.{Bool, true, false, cond, _||_, false≢true}
 use mathlib.Core.List.{List, [], _∷_, _++_, List·Memᴰ, List·Memᴰ·head, List·Memᴰ·tail, List·Memᴰ·cases-cons, List·Memᴰ·not-nil}
 use mathlib.Core.Logic.{_⊎_, inl, inr}
@@ -10,11 +10,11 @@ use native.Mathlib.Nat.{mod-add-mod}
 use native.Mathlib.Decide.{ℕ-discrete, decLt}
 use lib.ListN.{length, set}
 use borrow.Author.Tests.{leb-false, not-false}
-use Rattle.rules.specs.Numbers.{turn, after, distance, psn, size-ok, reason-ok, trimmed, trimmed-last-hop, no-buffer}
+use Rattle.rules.specs.Numbers.{turn, after, distance, psn, size-ok, reason-ok}
 use Rattle.lists.specs.Lists.{lead, update}
 use Rattle.promise.specs.Outcome.{Outcome, left}
-use Rattle.rules.specs.Paper.{code, answered}
-use Rattle.rules.specs.Receiver.{Receiver, judge, known, beyond, verdict, accept, counted, sack-of, reason-of, nack-of, acked, judged}
+use Rattle.rules.specs.Paper.{answered}
+use Rattle.rules.specs.Receiver.{Receiver, verdict, accept, counted, sack-of, reason-of, nack-of, acked, judged}
 use Rattle.rules.specs.Receiving.{arrive}
 use Rattle.rules.specs.Receiving as receiving
 use Rattle.rules.specs.Receiver as receiver
@@ -43,9 +43,9 @@ use Rattle.delivery.proofs.Effects.{rule-send, rule-resend, rule-timer,
 use Rattle.delivery.proofs.Rooms.{room-few}
 use Rattle.delivery.proofs.Places.{moved, stays}
 use Rattle.delivery.proofs.Sets.{at-least, plus, plus-same, plus-other, plus-more}
-use Rattle.delivery.proofs.Bytes.{Sizes, size-of-older, size-of-newest, size-sent, received-same}
+use Rattle.delivery.proofs.Bytes.{Sizes, size-of-older, size-of-newest, size-sent}
 use Rattle.delivery.proofs.Holds.{Holds, fresh-holds, accept-holds, accept-few, counted-holds, Newcomer, newcomer, known-accepted}
-use Rattle.delivery.proofs.Holds.{Tells, sack-tells, Says, sack-says, says-accepted}
+use Rattle.delivery.proofs.Holds.{Tells, sack-tells, Says, sack-says}
 use Rattle.delivery.proofs.Keeps.{Keeps, nth-is, Quiet, quiet-self, quiet-update, quiet-timer, quiet-nack, keeps-quiet}
 use Rattle.delivery.proofs.Keeps.{keeps-more, keeps-send, next-number, keeps-sack, place-moves, fresh-rests, rest-keeps}
 
@@ -92,17 +92,11 @@ told-more s A B n m more h note (Acks b k) T =
     }
 told-more s A B n m more h note (Nacks k) T = record { psn-is = T .psn-is; was-sent = omega (arith, T .was-sent); reason-good = T .reason-good }
 
--- the packet that a reply answers was sent
-answers-sent : (s : Start) (A : ℕ → Bool) (n : ℕ) → ((i : ℕ) → A i ≡ true → i < n) → (note : Note) (q : Reply) → Told s A n note q → note .about < n
-unfolding Told
-answers-sent s A n bound note (Acks b k) T = bound (note .about) (says-accepted (T .tells) (T .says))
-answers-sent s A n bound note (Nacks k) T = T .was-sent
-
 pub record Inv (s : Start) (w : World) : Type 0 where
   pub holds : Holds s (among (w .accepted)) (w .receiving) (w .at)
   pub keeps : Keeps s (among (w .accepted)) (length (w .sent)) (w .sending) (w .low)
   pub bound : (i : ℕ) → among (w .accepted) i ≡ true → i < length (w .sent)
-  pub counted : w .receiving .count ≡ received (w .sent) (w .notes) % 2 ^ 32
+  pub counted : w .receiving .count ≡ received (w .notes) % 2 ^ 32
   pub once : Once (w .accepted)
   pub sizes : Sizes (w .sent)
   pub carried : (p : Packet) → List·Memᴰ p (w .wire) → Carries s (w .sent) p
@@ -198,7 +192,7 @@ module _ {s : Start} {w : World} (I : Inv s w) where
     holds = I .holds;
     keeps = K;
     bound = λ i e. omega (arith, I .bound i e);
-    counted = I .counted ∙ ap (λ (t : ℕ). t % 2 ^ 32) (sym (received-same l (w .sent) (w .notes) same-size));
+    counted = I .counted;
     once = I .once;
     sizes = sizes;
     carried = λ p m. carried p (List·Memᴰ·cases-cons m);
@@ -209,9 +203,6 @@ module _ {s : Start} {w : World} (I : Inv s w) where
     told = λ n m. told-more s _ _ (length (w .sent)) (length l) (λ j e. e) longer n (n .reply) (I .told n m);
   }
     where
-      same-size : (n : Note) → List·Memᴰ n (w .notes) → size-of l (n .about) ≡ size-of (w .sent) (n .about)
-      same-size n m = older (n .about) (answers-sent s _ _ (I .bound) n (n .reply) (I .told n m))
-
       carried : (p : Packet) → (p ≡ packet q) ⊎ List·Memᴰ p (w .wire) → Carries s l p
       carried p (inl e) = subst (Carries s l) (sym e) C
       carried p (inr m) =
@@ -258,21 +249,6 @@ module _ {s : Start} {w : World} (I : Inv s w) where
 pub size-whole : (t l : Bool) (a b : ℕ) → t ≡ false → l ≡ false → cond (t || l) a b ≡ b
 size-whole t l a b p q = rw (p, q)
 
--- a packet that is answered 0 or 1 was not trimmed, and has its own size
-judge-whole : (t l k b n : Bool) → code (judge t l k b n) < 2 → (t ≡ false) × (l ≡ false)
-unfolding judge code
-judge-whole true l k b n h = absurd (omega arith)
-judge-whole false true k b n h = absurd (omega arith)
-judge-whole false false k b n h = (refl, refl)
-
-pub uncut : (r : Receiver) (p : Packet) (f : Fate) → code (verdict r (arrival p f)) < 2 → arrival p f .size ≡ p .size
-unfolding verdict arrival
-uncut r p f h =
-    let t : Bool = trimmed (f .flags) in
-    let l : Bool = trimmed-last-hop (f .flags) in
-    let W = judge-whole t l (known r (p .psn)) (beyond r (p .psn)) (no-buffer (f .flags)) h in
-    size-whole t l (f .cut) (p .size) (W .0) (W .1)
-
 module _ {s : Start} {w : World} (I : Inv s w) where
   here-still : w .at + distance (w .receiving .expected) (w .receiving .expected) ≡ w .at
   here-still = stays (w .at) (w .receiving .expected) (w .receiving .expected) refl
@@ -301,12 +277,11 @@ module _ {s : Start} {w : World} (I : Inv s w) where
   as-it-was : Accepting (w .receiving) (w .accepted)
   as-it-was = record { holds = rw here-still (I .holds); more = λ j e. e; bound = I .bound; once = I .once }
 
-  inv-noted : (r : Receiver) (l : List ℕ) (i : ℕ) (m : Reply) → Accepting r l
-      → r .count ≡ (received (w .sent) (w .notes) + adds m (size-of (w .sent) i)) % 2 ^ 32
-      → Told s (among l) (length (w .sent)) (record { reply = m; here = w .at + distance (w .receiving .expected) (r .expected); about = i }) m
-      → Inv s (noted (with-receiver rules w r) l i m)
+  inv-noted : (r : Receiver) (l : List ℕ) (i z : ℕ) (m : Reply) → Accepting r l → r .count ≡ (received (w .notes) + adds m z) % 2 ^ 32
+      → Told s (among l) (length (w .sent)) (record { reply = m; here = w .at + distance (w .receiving .expected) (r .expected); about = i; size = z }) m
+      → Inv s (noted (with-receiver rules w r) l i z m)
   unfolding noted with-receiver received
-  inv-noted r l i m K counted T = record {
+  inv-noted r l i z m K counted T = record {
     holds = K .holds;
     keeps = keeps-more (I .keeps) (among l) (K .more);
     bound = K .bound;
@@ -319,15 +294,15 @@ module _ {s : Start} {w : World} (I : Inv s w) where
   }
     where
       told : (n : Note)
-          → (n ≡ record { reply = m; here = w .at + distance (w .receiving .expected) (r .expected); about = i }) ⊎ List·Memᴰ n (w .notes)
+          → (n ≡ record { reply = m; here = w .at + distance (w .receiving .expected) (r .expected); about = i; size = z }) ⊎ List·Memᴰ n (w .notes)
           → Told s (among l) (length (w .sent)) n (n .reply)
       told n (inl e) = subst (λ (y : Note). Told s (among l) (length (w .sent)) y (y .reply)) (sym e) T
       told n (inr y) = told-more s (among (w .accepted)) (among l) (length (w .sent)) (length (w .sent)) (K .more) (omega arith) n (n .reply) (I .told n y)
 
   -- a NACK leaves the record as it was
-  inv-nacked : (i : ℕ) (k : Nack) → Names s (length (w .sent)) i k → Inv s (noted (with-receiver rules w (w .receiving)) (w .accepted) i (Nacks k))
+  inv-nacked : (i z : ℕ) (k : Nack) → Names s (length (w .sent)) i k → Inv s (noted (with-receiver rules w (w .receiving)) (w .accepted) i z (Nacks k))
   unfolding Told adds
-  inv-nacked i k N = inv-noted (w .receiving) (w .accepted) i (Nacks k) as-it-was (I .counted ∙ ap (λ (t : ℕ). t % 2 ^ 32) (omega arith)) N
+  inv-nacked i z k N = inv-noted (w .receiving) (w .accepted) i z (Nacks k) as-it-was (I .counted ∙ ap (λ (t : ℕ). t % 2 ^ 32) (omega arith)) N
 
   module _ (p : Packet) (C : Carries s (w .sent) p) (near : Near (p .number) (w .at)) (f : Fate) where
     abbrev i : ℕ
@@ -337,21 +312,19 @@ module _ {s : Start} {w : World} (I : Inv s w) where
     a = arrival p f
 
     -- a SACK: the packet is among those that r holds, and its size is counted
-    inv-acked : (v : Verdict) → verdict (w .receiving) a ≡ v → code v < 2 → (b : Bool) (r : Receiver) (l : List ℕ)
-        → Accepting r l → among l i ≡ true → r .count ≡ w .receiving .count
-        → Inv s (noted (with-receiver rules w (counted r a)) l i (Acks b (sack-of (counted r a) a)))
+    inv-acked : (b : Bool) (r : Receiver) (l : List ℕ) → Accepting r l → among l i ≡ true → r .count ≡ w .receiving .count
+        → Inv s (noted (with-receiver rules w (counted r a)) l i (a .size) (Acks b (sack-of (counted r a) a)))
     unfolding Told adds arrival counted
-    inv-acked v e low b r l K there same =
-        let size : a .size ≡ size-of (w .sent) i = uncut (w .receiving) p f (subst (λ (u : Verdict). code u < 2) (sym e) low) ∙ C .size-is in
+    inv-acked b r l K there same =
         let H = counted-holds (K .holds) a in
-        inv-noted (counted r a) l i _ (record { holds = H; more = K .more; bound = K .bound; once = K .once })
-        (ap₂ (λ (x y : ℕ). (x + y) % 2 ^ 32) (same ∙ I .counted) size ∙ mod-add-mod (received (w .sent) (w .notes)) (2 ^ 32) (size-of (w .sent) i))
+        inv-noted (counted r a) l i (a .size) _ (record { holds = H; more = K .more; bound = K .bound; once = K .once })
+        (ap (λ (x : ℕ). (x + a .size) % 2 ^ 32) (same ∙ I .counted) ∙ mod-add-mod (received (w .notes)) (2 ^ 32) (a .size))
         (record { tells = sack-tells H a; says = sack-says H i a (C .psn-is) there })
 
     inv-fresh : verdict (w .receiving) a ≡ Fresh
         → let r = counted (accept (w .receiving) a) a in
-        Inv s (noted (with-receiver rules w r) (i ∷ w .accepted) i (Acks true (sack-of r a)))
-    unfolding arrival accept among plus Once code
+        Inv s (noted (with-receiver rules w r) (i ∷ w .accepted) i (a .size) (Acks true (sack-of r a)))
+    unfolding arrival accept among plus Once
     inv-fresh e =
         let A : ℕ → Bool = among (w .accepted) in
         let r : Receiver = w .receiving in
@@ -364,7 +337,7 @@ module _ {s : Start} {w : World} (I : Inv s w) where
         let few : k < turn = accept-few (I .holds) a (N .inside) in
         let here : w .at + distance (r .expected) (r′ .expected) ≡ w .at + k =
         ap (λ (x : ℕ). w .at + x) (moved (s .first) (w .at) k (r .expected) (r′ .expected) (I .holds .expected-is) (H .expected-is) few) in
-        inv-acked Fresh e (omega arith) true r′ (i ∷ w .accepted)
+        inv-acked true r′ (i ∷ w .accepted)
         (record {
           holds = rw here H;
           more = λ j q. plus-more i j A q;
@@ -374,29 +347,28 @@ module _ {s : Start} {w : World} (I : Inv s w) where
         (plus-same i i A refl) refl
 
     inv-known : verdict (w .receiving) a ≡ Known
-        → let r = counted (w .receiving) a in Inv s (noted (with-receiver rules w r) (w .accepted) i (Acks false (sack-of r a)))
-    unfolding arrival code
-    inv-known e =
-        inv-acked Known e (omega arith) false (w .receiving) (w .accepted) as-it-was (known-accepted (I .holds) i a (C .psn-is) near e) refl
+        → let r = counted (w .receiving) a in Inv s (noted (with-receiver rules w r) (w .accepted) i (a .size) (Acks false (sack-of r a)))
+    unfolding arrival
+    inv-known e = inv-acked false (w .receiving) (w .accepted) as-it-was (known-accepted (I .holds) i a (C .psn-is) near e) refl
 
     names : (v : Verdict) → reason-ok (reason-of v) ≡ true → Names s (length (w .sent)) i (nack-of v a)
     unfolding nack-of arrival
     names v good = record { psn-is = C .psn-is; was-sent = C .was-sent; reason-good = good }
 
     inv-judged : (v : Verdict) → verdict (w .receiving) a ≡ v
-        → let o = judged (w .receiving) a v in Inv s (reply (with-receiver rules w (left (w .receiving) o)) i (message (answered o)))
+        → let o = judged (w .receiving) a v in Inv s (reply (with-receiver rules w (left (w .receiving) o)) i (a .size) (message (answered o)))
     unfolding judged acked left answered message accepts reply acceptance noted with-receiver reason-of reason-ok
     inv-judged Fresh e = inv-fresh e
     inv-judged Known e = inv-known e
-    inv-judged Beyond e = inv-nacked i _ (names Beyond refl)
-    inv-judged NoBuffer e = inv-nacked i _ (names NoBuffer refl)
-    inv-judged Trim e = inv-nacked i _ (names Trim refl)
-    inv-judged TrimLastHop e = inv-nacked i _ (names TrimLastHop refl)
+    inv-judged Beyond e = inv-nacked i _ _ (names Beyond refl)
+    inv-judged NoBuffer e = inv-nacked i _ _ (names NoBuffer refl)
+    inv-judged Trim e = inv-nacked i _ _ (names Trim refl)
+    inv-judged TrimLastHop e = inv-nacked i _ _ (names TrimLastHop refl)
 
     inv-arrive : Inv s (rule-arrive w p f)
     unfolding rule-arrive on-arrive arrive left answered message reply
     inv-arrive =
-        let P : Outcome Answer Receiver → Type 0 = λ o. Inv s (reply (with-receiver rules w (left (w .receiving) o)) (p .number) (message (answered o))) in
+        let P : Outcome Answer Receiver → Type 0 = λ o. Inv s (reply (with-receiver rules w (left (w .receiving) o)) i (a .size) (message (answered o))) in
         through P _ _ (λ _. inv-unread) (λ _. inv-judged (verdict (w .receiving) (arrival p f)) refl)
 
 -- ---- so each event keeps it

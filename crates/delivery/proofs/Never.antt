@@ -1,6 +1,6 @@
 -- What a run never meets: the sender's room is no larger than the receiver's, so no packet is beyond the window, and every reply names
--- packets that were sent, so none is refused; and no arrival that is answered 0 or 1 has another size than its packet. Assumes nothing.
-use mathlib.Core.Path.{_≡_, refl, _∙_}
+-- packets that were sent, so none is refused. Assumes nothing.
+use mathlib.Core.Path.{_≡_, refl}
 use mathlib.Core.Bool.{Bool, true, false}
 use native.Mathlib.Omega.{arith}
 use lib.ListN.{length}
@@ -13,10 +13,10 @@ use Rattle.delivery.specs.Wire.{Reply, Acks, Nacks, hearing, Note, arriv
 use Rattle.delivery.specs.Network.{Start}
 use Rattle.delivery.specs.Rules.{World}
 use Rattle.delivery.specs.Promise.{among}
-use Rattle.delivery.specs.Sense.{NeverBeyond, OwnSize, Taken, NeverRefused}
+use Rattle.delivery.specs.Sense.{NeverBeyond, Taken, NeverRefused}
 use Rattle.delivery.proofs.Holds.{not-known}
 use Rattle.delivery.proofs.Taken.{nack-taken, sack-taken}
-use Rattle.delivery.proofs.Invariant.{Told, Inv, not-ahead, uncut, invariant}
+use Rattle.delivery.proofs.Invariant.{Told, Inv, not-ahead, invariant}
 
 judge-beyond : (t l k b n : Bool) → judge t l k b n ≡ Beyond → (k ≡ false) × (b ≡ true)
 unfolding judge
@@ -37,9 +37,6 @@ never-beyond s w run p m near f e =
     let N = not-known (I .holds) (p .number) (p .psn) (C .psn-is) near (g .0) in
     let far = leb-true (room r) (distance (r .expected) (p .psn)) (g .1) in
     omega (arith, N .number, not-ahead I, I .holds .room-is, I .keeps .next-is, I .keeps .room-left, C .was-sent, s .no-larger)
-
-pub own-size : OwnSize
-own-size s w run p m f low = uncut (w .receiving) p f low ∙ invariant run .carried p m .size-is
 
 taken : {s : Start} {w : World} → Inv s w → (n : Note) (q : Reply) → Told s (among (w .accepted)) (length (w .sent)) n q
     → Readable (w .low) n q → Taken (w .sending) q

@@ -105,11 +105,11 @@ grows-timer : (w : World) (p : ℕ) → Grows w (rule-timer w p)
 unfolding rule-timer
 grows-timer w p = grows-quiet w _ (quiet-timer (w .sending) (psn p))
 
-grows-reply : (w : World) (r : Receiver) (i : ℕ) (m : Message) → Grows w (reply (with-receiver rules w r) i m)
+grows-reply : (w : World) (r : Receiver) (i z : ℕ) (m : Message) → Grows w (reply (with-receiver rules w r) i z m)
 unfolding reply with-receiver
-grows-reply w r i Silent = grows-alike w _ refl (omega arith) (λ k. refl)
-grows-reply w r i (Goes p) = grows-alike w _ refl (omega arith) (λ k. refl)
-grows-reply w r i (Replies q) = grows-alike w _ refl (omega arith) (λ k. refl)
+grows-reply w r i z Silent = grows-alike w _ refl (omega arith) (λ k. refl)
+grows-reply w r i z (Goes p) = grows-alike w _ refl (omega arith) (λ k. refl)
+grows-reply w r i z (Replies q) = grows-alike w _ refl (omega arith) (λ k. refl)
 
 -- ---- a SACK is heard
 module _ {s : Start} {w : World} (I : Inv s w) (here : ℕ) (k : Sack) (T : Tells s (among (w .accepted)) here k)
@@ -189,7 +189,7 @@ module _ {s : Start} {w : World} (I : Inv s w) where
   grows-next (resends a x given) = grows-resend w
   grows-next (timers p a x given) = grows-timer w p
   grows-next (hears n there h a x given) = grows-heard n (n .reply) (I .told n there) h
-  grows-next (arrives p there near f a r g) = grows-reply w r (p .number) (message a)
+  grows-next (arrives p there near f a r g) = grows-reply w r (p .number) _ (message a)
   grows-next (beside-sender x e) = absurd e
   grows-next (beside-receiver r e) = absurd e
 

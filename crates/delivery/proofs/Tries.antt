@@ -138,11 +138,11 @@ put-stays w u l packet Silent S = S
 put-stays w u l packet (Goes p) S = S
 put-stays w u l packet (Replies r) S = S
 
-reply-stays : (w : World) (r : Receiver) (i : ℕ) (a : Message) → marked-at (w .sending) 0 ≡ true → Stays w (reply (with-receiver rules w r) i a)
+reply-stays : (w : World) (r : Receiver) (i z : ℕ) (a : Message) → marked-at (w .sending) 0 ≡ true → Stays w (reply (with-receiver rules w r) i z a)
 unfolding reply with-receiver
-reply-stays w r i Silent m = inr m
-reply-stays w r i (Goes p) m = inr m
-reply-stays w r i (Replies q) m = inr m
+reply-stays w r i z Silent m = inr m
+reply-stays w r i z (Goes p) m = inr m
+reply-stays w r i z (Replies q) m = inr m
 
 module _ {s : Start} {w : World} (I : Inv s w) (m : marked-at (w .sending) 0 ≡ true) where
   abbrev Marked : Sender → Type 0
@@ -190,6 +190,6 @@ module _ {s : Start} {w : World} (I : Inv s w) (m : marked-at (w .sending) 0 ≡
   mark-next (resends a x g) = inl tt
   mark-next (timers p a x given) = inr (with-sender-stays _ (timer-marked (psn p) .holds))
   mark-next (hears n there h a x given) = inr (heard-stays n (n .reply) (I .told n there) h)
-  mark-next (arrives p there near f a r g) = inr (reply-stays w r (p .number) (message a) m)
+  mark-next (arrives p there near f a r g) = inr (reply-stays w r (p .number) _ (message a) m)
   mark-next (beside-sender x g) = absurd g
   mark-next (beside-receiver r g) = absurd g

@@ -87,22 +87,23 @@ put w sizes packet (Goes p) = record {
 }
 put w sizes packet (Replies r) = w
 
--- a reply is noted, and the number of the packet that it accepts
+-- a reply is noted, with the number of the packet that it answers and the size that this came with, and the number of the packet that it
+-- accepts
 unfoldable pub acceptance : Reply → ℕ → List ℕ → List ℕ
 acceptance (Acks b k) i l = cond b (i ∷ l) l
 acceptance (Nacks k) i l = l
 
-unfoldable pub reply : {X R : Type 0} → World X R → ℕ → Message → World X R
-reply w i Silent = w
-reply w i (Goes p) = w
-reply w i (Replies r) = record {
+unfoldable pub reply : {X R : Type 0} → World X R → ℕ → ℕ → Message → World X R
+reply w i z Silent = w
+reply w i z (Goes p) = w
+reply w i z (Replies r) = record {
   sending = w .sending;
   receiving = w .receiving;
   low = w .low;
   at = w .at;
   sent = w .sent;
   wire = w .wire;
-  notes = record { reply = r; here = w .at; about = i } ∷ w .notes;
+  notes = record { reply = r; here = w .at; about = i; size = z } ∷ w .notes;
   accepted = acceptance r i (w .accepted);
 }
 
@@ -153,8 +154,8 @@ module _ (n : Sides) where
   unfoldable pub on-resend : Worlds → Answer → n .sender .State → Worlds
   on-resend w a x = put (with-sender w x) (w .sent) (again w) (message a)
 
-  unfoldable pub on-arrive : Worlds → Packet → Answer → n .receiver .State → Worlds
-  on-arrive w p a r = reply (with-receiver w r) (p .number) (message a)
+  unfoldable pub on-arrive : Worlds → Packet → Fate → Answer → n .receiver .State → Worlds
+  on-arrive w p f a r = reply (with-receiver w r) (p .number) (arrival p f .size) (message a)
 
 -- one event. Loss is never being read.
 pub data Next (n : Sides) (w : Worlds n) : Worlds n → Type 0 where
@@ -165,7 +166,7 @@ pub data Next (n : Sides) (w : Worlds n) : Worlds n → Type 0 where
   hears : (m : Note) → List·Memᴰ m (w .notes) → Readable (w .low) m (m .reply) → (a : Answer) (x : n .sender .State)
       → n .sender .Steps (w .sending) (hearing (m .reply)) a x → Next n w (with-sender n w x)
   arrives : (p : Packet) → List·Memᴰ p (w .wire) → Near (p .number) (w .at) → (f : Fate) (a : Answer) (r : n .receiver .State)
-      → n .receiver .Steps (w .receiving) (Arrive (arrival p f)) a r → Next n w (on-arrive n w p a r)
+      → n .receiver .Steps (w .receiving) (Arrive (arrival p f)) a r → Next n w (on-arrive n w p f a r)
   -- anything else around either side
   beside-sender : (x : n .sender .State) → n .sender .Beside (w .sending) x → Next n w (with-sender n w x)
   beside-receiver : (r : n .receiver .State) → n .receiver .Beside (w .receiving) r → Next n w (with-receiver n w r)

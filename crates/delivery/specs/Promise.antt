@@ -16,7 +16,7 @@ use Rattle.rules.specs.Sender as sender
 use Rattle.rules.specs.Sending.{send, step}
 use Rattle.rules.specs.Retire.{is-retired}
 use Rattle.rules.specs.declared.Arrival.{Arrival}
-use Rattle.delivery.specs.Network.{Start, opening, size-of, Sides, Worlds, meant}
+use Rattle.delivery.specs.Network.{Start, opening, Sides, Worlds, meant}
 use Rattle.delivery.specs.Network as network
 use Rattle.delivery.specs.Wire.{Reply, Acks, Nacks, hearing, Message, Silent, Goes, Replies, message, Note}
 use Rattle.delivery.specs.Rules.{World, Run, begin}
@@ -66,11 +66,10 @@ unfoldable pub adds : Reply → ℕ → ℕ
 adds (Acks b k) z = z
 adds (Nacks k) z = 0
 
--- those sizes over the history of arrivals, each of which has its reply there unless it was refused; such an arrival has the size that
--- its packet was sent with (`OwnSize` of Sense)
-unfoldable pub received : List ℕ → List Note → ℕ
-received sent [] = 0
-received sent (n ∷ l) = received sent l + adds (n .reply) (size-of sent (n .about))
+-- those sizes over the history of arrivals, in which each that is not refused has its reply
+unfoldable pub received : List Note → ℕ
+received [] = 0
+received (n ∷ l) = received l + adds (n .reply) (n .size)
 
 -- whether entry k of the sender is retired
 abbrev pub retired-at : Sender → ℕ → Bool
@@ -92,7 +91,7 @@ pub record Promise (s : Start) (w : World) : Type 0 where
   -- "the receiver's record is the one left by its accepted packets coming once each in ascending order"
   pub in-order : compared (w .receiving) ≡ compared (ascending s (among (w .accepted)) (w .sent))
   -- "the count is the sum over the history of those sizes, modulo 2 to the 32"
-  pub counted : w .receiving .count ≡ received (w .sent) (w .notes) % 2 ^ 32
+  pub counted : w .receiving .count ≡ received (w .notes) % 2 ^ 32
   -- "Once the sender has nothing unretired, both records equal those of a run of the same packets, one at a time and without loss"
   pub in-the-end : ((k : ℕ) → k < outstanding (w .sending) → retired-at (w .sending) k ≡ true)
       → (w .sending ≡ lossless s (w .sent) .0) × (compared (w .receiving) ≡ compared (lossless s (w .sent) .1))

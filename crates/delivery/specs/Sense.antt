@@ -1,15 +1,13 @@
 -- That demand 3 says something: what a run never meets, and that every run can be brought to its end.
 use mathlib.Core.Path.{_≡_}
 use mathlib.Core.List.{List·Memᴰ}
-use Prim.Native.Nat.{_<_}
 use Rattle.promise.specs.Outcome.{Done}
-use Rattle.rules.specs.Paper.{code}
 use Rattle.rules.specs.Receiver.{verdict}
 use Rattle.rules.specs.Sender.{Sender, outstanding}
 use Rattle.rules.specs.Sending.{step}
 use Rattle.rules.specs.declared.Answer.{Answer}
 use Rattle.rules.specs.declared.Verdict.the-variants.{Beyond}
-use Rattle.delivery.specs.Network.{Start, size-of}
+use Rattle.delivery.specs.Network.{Start}
 use Rattle.delivery.specs.Wire.{Packet, Fate, Reply, hearing, Note, arrival, Near, Readable}
 use Rattle.delivery.specs.Rules.{World, Run, begin}
 
@@ -18,12 +16,6 @@ abbrev pub NeverBeyond : Type 0
 NeverBeyond =
     (s : Start) (w : World) → Run (begin s) w → (p : Packet) → List·Memᴰ p (w .wire) → Near (p .number) (w .at) → (f : Fate)
     → verdict (w .receiving) (arrival p f) ≡ Beyond → ⊥
-
--- an arrival answered 0 or 1 has the size that its packet was first sent with: the sizes of `received` are the arrivals' own
-abbrev pub OwnSize : Type 0
-OwnSize =
-    (s : Start) (w : World) → Run (begin s) w → (p : Packet) → List·Memᴰ p (w .wire) → (f : Fate)
-    → code (verdict (w .receiving) (arrival p f)) < 2 → arrival p f .size ≡ size-of (w .sent) (p .number)
 
 -- a reply is done, and not refused
 abbrev pub Taken : Sender → Reply → Type 0

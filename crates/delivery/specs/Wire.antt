@@ -71,11 +71,13 @@ message (answer.Marked n) = Silent
 message (answer.Expired n) = Silent
 message (answer.Resent p) = Goes (p .0)
 
--- a reply on the wire, with the numbers of the receiver's expected PSN when it was made and of the packet that it answers
+-- a reply on the wire, with the numbers of the receiver's expected PSN when it was made and of the packet that it answers, and the size
+-- that this packet came with
 pub record Note : Type 0 where
   pub reply : Reply
   pub here : ℕ
   pub about : ℕ
+  pub size : ℕ
 
 -- ---- "Whenever a message is read, every packet number it names lies fewer than 8,388,608 from the reader's place"
 abbrev pub Near : ℕ → ℕ → Type 0

@@ -22,12 +22,13 @@ use Rattle.rules.specs.declared.Use.{Use}
 use Rattle.rules.specs.declared.Use.the-variants.{Sends, Receives}
 use Rattle.rules.specs.declared.Read.the-variants.{Record, Nothing}
 
--- a row's name on the bench: R1 to R6, S1 to S5, what is given before the first, and what follows the last: a SACK that comes late; and
--- a NACK's reason, which no line of a log shows
+-- a row's name on the bench: R1 to R6, S1 to S5, what is given before the first, and what follows the last: a packet that comes again, a
+-- SACK that comes late; and a NACK's reason, which no line of a log shows
 pub data Label : Type 0 where
   R : ℕ → Label
   S : ℕ → Label
   Given : Label
+  Again : Label
   Late : Label
   Reason : ℕ → Label
 
@@ -126,6 +127,7 @@ nacked v p reason = done 4 (v ∷ p ∷ 7 ∷ 0 ∷ []) (reason ∷ [])
 abbrev pub retired : ℕ → ℕ → ℕ → Line
 retired newly place held = done 5 (newly ∷ place ∷ held ∷ []) []
 
+-- R1 to R6, and then 63 once more, which is accepted and still in the window
 abbrev pub receiving : List Row
 receiving =
     row (R 1) (arrives 16777215) (acked 0 16777213 16777214 2 0)
@@ -138,6 +140,8 @@ receiving =
     ∷ look (R 6) (kept 0 64 (2 ^ 63) 400)
     ∷ row (R 6) (arrives 8388608) (acked 1 16777215 0 (2 ^ 63) 1)
     ∷ look (R 6) (kept 0 64 (2 ^ 63) 500)
+    ∷ row Again (arrives 63) (acked 1 16777215 0 (2 ^ 63) 2)
+    ∷ look Again (kept 0 64 (2 ^ 63) 600)
     ∷ []
 
 -- each reason as the sending side takes it, "1 TRIM, 2 TRIM_LASTHOP, 3 NO_BITMAP, 4 NO_PKT_BUFFER": trimmed, trimmed at the last hop,
