@@ -13,17 +13,17 @@ use Rattle.word.proofs.Bits.{bit-none, bit-past, bit-shr, bit-mod, bit-shl-low,
 use Rattle.rules.specs.Numbers.{largest-room}
 use Rattle.retire.specs.Rows.{ahead, bit-of-block}
 
--- ---- which bits of a block are unsent: it begins o after place + 1, and n are outstanding
+-- ---- which bits of a block lie n or more ahead of a packet number, after which it begins by o
 module _ (o n j : ℕ) (l : j < 64) where
-  pub unsent-near : o < half → in-range (n - o) (half - o) j ≡ ahead n ((o + j) % turn)
-  unsent-near h =
+  pub ahead-near : o < half → in-range (n - o) (half - o) j ≡ ahead n ((o + j) % turn)
+  ahead-near h =
       let e : o + j ≡ (o + j) % turn = omega arith in
       ap₂ (λ (x y : Bool). x && y) (leb-same (n - o) j n (o + j) (λ k. omega arith) (λ k. omega arith))
       (leb-same (suc j) (half - o) (suc (o + j)) half (λ k. omega arith) (λ k. omega arith) ∙ sym (leb-not half (o + j)))
       ∙ ap (ahead n) e
 
-  pub unsent-far : half ≤ o → o < turn → in-range (turn - o + n) 64 j ≡ ahead n ((o + j) % turn)
-  unsent-far h k = rw (lt-ltb j 64 l) (and-true (leb (turn - o + n) j) ∙ go (decLt (o + j) turn))
+  pub ahead-far : half ≤ o → o < turn → in-range (turn - o + n) 64 j ≡ ahead n ((o + j) % turn)
+  ahead-far h k = rw (lt-ltb j 64 l) (and-true (leb (turn - o + n) j) ∙ go (decLt (o + j) turn))
     where
       go : Dec (o + j < turn) → leb (turn - o + n) j ≡ ahead n ((o + j) % turn)
       go (yes b) =
@@ -34,9 +34,9 @@ module _ (o n j : ℕ) (l : j < 64) where
           let e : (o + j) % turn ≡ i = omega arith in
           rw (e, lt-leb half i (omega arith)) (leb-same (turn - o + n) j n i (λ q. omega arith) (λ q. omega arith) ∙ sym (and-true (leb n i)))
 
--- where so many are outstanding, none is ahead
-pub unsent-none : (n i j : ℕ) → half ≤ n → bit-at 0 j ≡ ahead n i
-unsent-none n i j h = bit-none j ∙ sym (go (decLt i n))
+-- half the circle ahead, none is
+pub ahead-none : (n i j : ℕ) → half ≤ n → bit-at 0 j ≡ ahead n i
+ahead-none n i j h = bit-none j ∙ sym (go (decLt i n))
   where
     go : Dec (i < n) → ahead n i ≡ false
     go (yes l) = rw (lt-leb n i l)

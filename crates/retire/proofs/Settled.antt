@@ -19,9 +19,9 @@ use Rattle.retire.specs.declared.Moved.{Moved}
 use Rattle.retire.specs.Rows.{ahead, Retires}
 use Rattle.retire.specs.Front.{offset, retired-then, marked-then, front, Stands, Moves}
 
--- ---- what is unsent
-pub unsent-bits-settled : (o n v w : ℕ) → v < 2 ^ 64 → w < 2 ^ 64 → Bits v (λ j. ahead n ((o + j) % turn)) → Bits w (λ j. ahead n ((o + j) % turn)) → v ≡ w
-unsent-bits-settled o n v w small small′ = bits-one v w (λ j. ahead n ((o + j) % turn)) small small′
+-- ---- what lies ahead, and what is unsent
+pub bits-ahead-settled : (o n v w : ℕ) → v < 2 ^ 64 → w < 2 ^ 64 → Bits v (λ j. ahead n ((o + j) % turn)) → Bits w (λ j. ahead n ((o + j) % turn)) → v ≡ w
+bits-ahead-settled o n v w small small′ = bits-one v w (λ j. ahead n ((o + j) % turn)) small small′
 
 module _ (place n : ℕ) where
   -- there is a record at any place, with any number outstanding

@@ -15,7 +15,7 @@ use Rattle.rules.specs.declared.Block.{Block}
 use Rattle.retire.specs.declared.Retired.{Retired}
 use Rattle.retire.specs.declared.Sum.{Sum}
 
--- does the i-th PSN after place + 1, of n that are outstanding, lie past them and not behind
+-- does the i-th PSN after a given one lie n or more ahead of it, and not behind it
 abbrev pub ahead : ℕ → ℕ → Bool
 ahead n i = leb n i && not (leb half i)
 

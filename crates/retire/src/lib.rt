@@ -17,8 +17,8 @@ use psn::TURN;
 use rules::Block;
 use rules::LARGEST_ROOM;
 
-// The bits of a block that name unsent packet numbers: the block begins o after place + 1, and n are outstanding.
-fn unsent_bits(o: u32, n: u32) -> u64
+// The bits of a block whose packet numbers lie n or more ahead of a number, and not behind it: the block begins o after that number.
+fn bits_ahead(o: u32, n: u32) -> u64
     ensures { λ r. ⌜ Bits r (λ j. ahead n ((o + j) % turn)) ⌝ }
 {
     if HALF <= n {
@@ -58,7 +58,7 @@ pub fn names_unsent(place: Psn, n: u32, cack: Psn, block: Block) -> bool
     }
     let base = block.base;
     let o = place.after(1).distance(base);
-    (block.bitmap & unsent_bits(o, n)) != 0
+    (block.bitmap & bits_ahead(o, n)) != 0
 }
 
 // A block's bits as they stand in the word that begins q after the block's base.

@@ -29,8 +29,8 @@ after-requires c κs = search needs
 distance-requires-2 : tie.Need-distance-requires-2
 distance-requires-2 c κs = search needs
 
-unsent-bits-requires : tie.Need-unsent-bits-requires
-unsent-bits-requires c κs = search needs
+bits-ahead-requires : tie.Need-bits-ahead-requires
+bits-ahead-requires c κs = search needs
 
 returns-2 : tie.Need-returns-2
 returns-2 c = λ x h.
@@ -38,13 +38,13 @@ returns-2 c = λ x h.
     let block = a .block in
     let d = c .before .before .before .before .before .before .distance in
     let o = c .before .before .distance2 in
-    let mask = c .before .unsent-bits .result in
+    let mask = c .before .bits-ahead .result in
     let near : a .n < d .result → d .result < half → ⊥ =
     λ k l. ⊎-elim (λ w. omega (arith, w .1 .left)) (λ w. omega (arith, w .left)) (c .before .before .before .before .before .if1 .came) in
     let o-is = o .ensures ∙ ap (λ (b : ℕ). distance b (block .base .0)) (c .before .before .before .after .ensures) in
     unsent-by-bit x (a .place .0) (a .n) h (a .cack .0) block (d .result) (d .ensures) near (o .result) (bitAnd (block .bitmap) mask)
     o-is (omega (arith, and-le-l (block .bitmap) mask))
-    (λ j l. bit-and (block .bitmap) mask j ∙ ap (λ (t : Bool). bit-at (block .bitmap) j && t) (c .before .unsent-bits .ensures j l))
+    (λ j l. bit-and (block .bitmap) mask j ∙ ap (λ (t : Bool). bit-at (block .bitmap) j && t) (c .before .bits-ahead .ensures j l))
 
 pub names-unsent-spec : {M : Type 1} → statement M
 names-unsent-spec =
@@ -54,5 +54,5 @@ names-unsent-spec =
     returns
     after-requires
     distance-requires-2
-    unsent-bits-requires
+    bits-ahead-requires
     returns-2)
