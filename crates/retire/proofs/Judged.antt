@@ -1,6 +1,7 @@
--- Which packet numbers are unsent, and which SACKs name one: by cack, or by a bit of the block, which the word of such bits shows. Assumes nothing.
+-- Which SACKs contradict themselves, by a bit of the block; which packet numbers are unsent, and which SACKs name one, by cack or by a bit.
+-- The word of such bits shows whether there is one. Assumes nothing.
 use mathlib.Core.Path.{_≡_, sym, ap, ap₂, _∙_}
-use mathlib.Core.Bool.{Bool, true, false, not, _&&_, _||_}
+use mathlib.Core.Bool.{Bool, true, false, not, _&&_, _||_, or-true}
 use Prim.Native.Nat.{ℕ, _+_, _%_, _^_, _≤_, _<_}
 use native.Mathlib.Omega.{arith}
 use native.Mathlib.Decide.{ℕ-discrete, decLt}
@@ -14,7 +15,7 @@ use Rattle.lists.proofs.Lists.{any-none, any-some}
 use Rattle.word.specs.Word.{bit-at, Bits}
 use Rattle.word.proofs.Bits.{bit-none, first-bit}
 use Rattle.rules.specs.Sender.{Sender, index, unsent}
-use Rattle.rules.specs.Retire.{unsent-cack, unsent-bit, names-unsent}
+use Rattle.rules.specs.Retire.{any-set, at-odds, contradicts, unsent-cack, unsent-bit, names-unsent}
 use Rattle.rules.specs.declared.Block.{Block}
 use Rattle.retire.specs.Rows.{ahead}
 use Rattle.retire.specs.Front.{Stands}
@@ -30,6 +31,31 @@ any-bit w f small e = go (ℕ-discrete w 0)
         let t = trailingZeros 64 w in
         let l = some-bit w t small z (first-bit 64 w) in
         ap not (ne-eqb w 0 z) ∙ sym (any-some 64 f t l (sym (e t l) ∙ first-bit 64 w .here l))
+
+-- a block's set bits whose packet numbers pass
+any-set-is : (w : ℕ) (f : ℕ → Bool) (b : Block) → w < 2 ^ 64 → Bits w (λ j. bit-at (b .bitmap) j && f (after (b .base .0) j)) → not (eqb w 0) ≡ any-set f b
+unfolding any-set
+any-set-is w f b small e = any-bit w (λ j. bit-at (b .bitmap) j && f (after (b .base .0) j)) small e
+
+-- ---- what lies at 0 or 1 from cack, or behind it, does not lie 2 or more ahead
+not-ahead : (d : ℕ) → not (ahead 2 d) ≡ (leb d 1 || leb half d)
+not-ahead d = go (leb half d) (decLt d 2)
+  where
+    go : (b : Bool) → Dec (d < 2) → not (leb 2 d && not b) ≡ (leb d 1 || b)
+    go b (yes l) = rw (lt-leb 2 d l, le-leb d 1 (omega arith))
+    go true (no l) = rw (le-leb 2 d (omega arith)) (sym (or-true (leb d 1)))
+    go false (no l) = rw (le-leb 2 d (omega arith), lt-leb d 1 (omega arith))
+
+-- o is the block's base from cack, and w has the set bits that do not lie so
+pub contradicts-by-bit : (cack : ℕ) (b : Block) (o w : ℕ) → o ≡ distance cack (b .base .0) → w < 2 ^ 64
+    → Bits w (λ j. bit-at (b .bitmap) j && not (ahead 2 ((o + j) % turn))) → not (eqb w 0) ≡ contradicts cack b
+unfolding contradicts at-odds
+contradicts-by-bit cack b o w o-is small e =
+    any-set-is w (at-odds cack) b small
+    (λ j l. e j l ∙ ap (λ (t : Bool). bit-at (b .bitmap) j && t) (ap (λ (d : ℕ). not (ahead 2 d)) (at j) ∙ not-ahead (distance cack (after (b .base .0) j))))
+  where
+    at : (j : ℕ) → (o + j) % turn ≡ distance cack (after (b .base .0) j)
+    at j = ap (λ (i : ℕ). (i + j) % turn) o-is ∙ distance-on cack (b .base .0) j
 
 -- ---- a record at this place, with n outstanding
 module _ (x : Sender) (place n : ℕ) (h : Stands x place n) where
@@ -69,10 +95,9 @@ module _ (x : Sender) (place n : ℕ) (h : Stands x place n) where
         → Bits w (λ j. bit-at (b .bitmap) j && ahead n ((o + j) % turn)) → not (eqb w 0) ≡ names-unsent x cack b
     unfolding names-unsent unsent-bit
     unsent-by-bit near o w o-is small e =
-        let unsent-at : ℕ → Bool = λ j. bit-at (b .bitmap) j && unsent x (after (b .base .0) j) in
-        any-bit w unsent-at small
+        any-set-is w (unsent x) b small
         (λ j l. e j l ∙ ap (λ (t : Bool). bit-at (b .bitmap) j && t) (ap (ahead n) (at j) ∙ sym (unsent-is (after (b .base .0) j))))
-        ∙ ap (λ (t : Bool). t || any 64 unsent-at) (sym (cack-is ∙ not-past (decLt n d)))
+        ∙ ap (λ (t : Bool). t || any-set (unsent x) b) (sym (cack-is ∙ not-past (decLt n d)))
       where
         at : (j : ℕ) → (o + j) % turn ≡ distance (after place 1) (after (b .base .0) j)
         at j = ap (λ (i : ℕ). (i + j) % turn) o-is ∙ distance-on (after place 1) (b .base .0) j

@@ -8,7 +8,7 @@ ghost use Rattle.word.specs.Word.{bit-at, Bits};
 ghost use Rattle.row.specs.Row.{longest};
 ghost use Rattle.rules.specs.Numbers.{largest-room};
 ghost use Rattle.rules.specs.Sender.{Sender, unsent as unsent-of};
-ghost use Rattle.rules.specs.Retire.{names-unsent};
+ghost use Rattle.rules.specs.Retire.{contradicts as contradicts-of, names-unsent};
 ghost use Rattle.retire.specs.Rows.{ahead, bit-of-block, names, size-by, Alike, OneRetired, Retires};
 ghost use Rattle.retire.specs.Front.{named-by, Stands, Ready, Moves};
 use psn::HALF;
@@ -33,6 +33,15 @@ fn bits_ahead(o: u32, n: u32) -> u64
         return word::range(from, HALF - at);
     }
     word::range(TURN - at + n, 64)
+}
+
+// Whether a SACK has a set bit for its cack + 1, for its cack or for a packet number behind it.
+pub fn contradicts(cack: Psn, block: Block) -> bool
+    ensures { λ r. ⌜ r ≡ contradicts-of (cack .0) block ⌝ }
+{
+    let base = block.base;
+    let o = cack.distance(base);
+    word::without(block.bitmap, bits_ahead(o, 2)) != 0
 }
 
 // Whether a packet number is neither one of the n that are outstanding after the place nor behind place + 1.

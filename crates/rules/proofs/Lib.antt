@@ -21,3 +21,4 @@ pub mod Replays
 pub mod Apart
 pub mod Settled
 pub mod Numbered
+pub mod Contradicts

@@ -28,6 +28,7 @@ use Rattle.rules.specs.declared.Verdict.{Verdict}
 use Rattle.rules.specs.declared.Verdict.the-variants.{Fresh, Known, Beyond, NoBuffer, Trim, TrimLastHop}
 use Rattle.rules.specs.declared.Answer.{Answer}
 use Rattle.rules.specs.declared.Answer.the-variants as answer
+use Rattle.rules.specs.declared.Sending.{Sending}
 use Rattle.rules.specs.declared.Sending.the-variants as sending-of
 use Rattle.rules.specs.declared.Use.{Use}
 use Rattle.rules.specs.declared.Use.the-variants as use-of
@@ -100,17 +101,18 @@ unfolding nacked paper
 nacked-done x p reason =
     does-either (leb reason 4) (mark answer.Marked x p) (Done x (answer.Marked 0)) (mark-done answer.Marked (λ n. refl) x p) (does _ _ refl)
 
+pub sending-splits : (x : Sender) (e : Sending) → Splits (sending.step-refusals x e) (sending.step x e)
+unfolding sending.step-refusals sending.step sending.send sending.sack sending.nack sending.timer sending.resend sent acknowledged report resent paper
+sending-splits x (sending-of.Send size) = splits (sending.send-refusals x size) _ (does _ _ refl)
+sending-splits x (sending-of.Sack cack b) = splits (sending.sack-refusals x cack b) _ (does _ _ refl)
+sending-splits x (sending-of.Nack p reason) = splits (sending.nack-refusals x p reason) _ (nacked-done x (p .0) reason)
+sending-splits x (sending-of.Timer p) = splits (sending.timer-refusals x p) _ (mark-done answer.Expired (λ n. refl) x (p .0))
+sending-splits x sending-of.Resend = splits (sending.resend-refusals x) _ (does _ _ refl)
+
 step-splits : (c : Connection) (u : Use) → Splits (use-refusals c u) (step c u)
-unfolding use-refusals step close sending.step sending.send sending.sack sending.nack sending.timer sending.resend receiving.step receiving.arrive
-    sent acknowledged report resent paper
+unfolding use-refusals step close receiving.step receiving.arrive paper
 step-splits c use-of.Close = splits (close-refusals c) _ (does empty answer.Closed refl)
-step-splits c (use-of.Sends (sending-of.Send size)) = splits-within (with-sender c) _ _ (splits (sending.send-refusals (c .sender) size) _ (does _ _ refl))
-step-splits c (use-of.Sends (sending-of.Sack cack b)) = splits-within (with-sender c) _ _ (splits (sending.sack-refusals (c .sender) cack b) _ (does _ _ refl))
-step-splits c (use-of.Sends (sending-of.Nack p reason)) =
-    splits-within (with-sender c) _ _ (splits (sending.nack-refusals (c .sender) p reason) _ (nacked-done (c .sender) (p .0) reason))
-step-splits c (use-of.Sends (sending-of.Timer p)) =
-    splits-within (with-sender c) _ _ (splits (sending.timer-refusals (c .sender) p) _ (mark-done answer.Expired (λ n. refl) (c .sender) (p .0)))
-step-splits c (use-of.Sends sending-of.Resend) = splits-within (with-sender c) _ _ (splits (sending.resend-refusals (c .sender)) _ (does _ _ refl))
+step-splits c (use-of.Sends e) = splits-within (with-sender c) _ _ (sending-splits (c .sender) e)
 step-splits c (use-of.Receives a) =
     splits-within (with-receiver c) _ _ (splits (receiving.arrive-refusals (c .receiver) a) _ (judged-done (c .receiver) a (verdict (c .receiver) a)))
 

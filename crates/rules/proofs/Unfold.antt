@@ -8,7 +8,8 @@ use Rattle.fields.specs.Fields as fields
 use Rattle.rules.specs.Receiver as receiver
 use Rattle.rules.specs.Receiving as receiving
 use Rattle.rules.specs.Sender as sender
-use Rattle.rules.specs.Retire.{unsent-cack, up-to, unsent-bit, names-unsent, has-bit, named, retire, newly, settle, after-sack, report, acknowledged}
+use Rattle.rules.specs.Retire.{any-set, at-odds, contradicts, unsent-cack, up-to, unsent-bit, names-unsent, has-bit, named}
+use Rattle.rules.specs.Retire.{retire, newly, settle, after-sack, report, acknowledged}
 use Rattle.rules.specs.Marks.{mark, nacked, nearest, resent}
 use Rattle.rules.specs.Sending as sending
 use Rattle.rules.specs.Connection as connection
@@ -29,10 +30,11 @@ unfolding bit-at after distance room-ok size-ok flags-ok reason-ok
     receiving.arrive-refusals receiving.arrive receiving.step
     sender.next sender.size-held sender.held sender.fresh sender.start-refusals sender.start sender.with-entries sender.sent sender.index
     sender.unsent
-    unsent-cack up-to unsent-bit names-unsent has-bit named retire newly settle after-sack report acknowledged
+    any-set at-odds contradicts unsent-cack up-to unsent-bit names-unsent has-bit named retire newly settle after-sack report acknowledged
     mark nacked nearest resent
     sending.send-refusals sending.send sending.sack-refusals sending.sack sending.nack-refusals sending.nack
-    sending.timer-refusals sending.timer sending.resend-refusals sending.resend sending.step
+    sending.timer-refusals sending.timer sending.resend-refusals sending.resend
+    sending.step-refusals sending.step
     connection.fresh connection.start-refusals connection.start connection.close-refusals connection.close connection.step
     outside taken-refusals in-slot on-refusals on emptied
     kind-of fields-of event-of layouts layout width event-width widths event-widths

@@ -1,14 +1,14 @@
 -- 01, From the bench: the starred cases, and L, as one table. A case asks for events on a fresh connection, with a look at its receiver's
--- record between them, for a log's records or for its answers, and has the lines that come back. 02, No. 4 amends "R3's record and the
--- known half of R6".
+-- record between them, for a log's records or for its answers, and has the lines that come back. 02, No. 3 amends S1, and No. 4 "R3's
+-- record and the known half of R6".
 use mathlib.Core.Path.{_≡_}
 use mathlib.Core.Bool.{false}
-use mathlib.Core.List.{List, [], _∷_, map}
-use Prim.Native.Nat.{ℕ, zero, suc, _^_}
+use mathlib.Core.List.{List, [], _∷_, _++_, map}
+use Prim.Native.Nat.{ℕ, zero, suc, _+_, _-_, _^_}
 use lib.ListN.{length, replicate}
 use Rattle.promise.specs.Line.{Line, refused, done}
 use Rattle.promise.specs.Outcome.{left}
-use Rattle.rules.specs.Numbers.{psn}
+use Rattle.rules.specs.Numbers.{turn, half, after, psn}
 use Rattle.lists.specs.Lists.{pack}
 use Rattle.rules.specs.Receiver.{Receiver, room}
 use Rattle.rules.specs.Receiving.{Arrive, arrive}
@@ -23,14 +23,17 @@ use Rattle.rules.specs.declared.Use.the-variants.{Sends, Receives}
 use Rattle.rules.specs.declared.Read.the-variants.{Record, Nothing}
 
 -- a row's name on the bench: R1 to R6, S1 to S5, what is given before the first, and what follows the last: a packet that comes again, a
--- SACK that comes late; and a NACK's reason, which no line of a log shows
+-- SACK that comes late; a SACK of which half might be retired; a NACK's reason, which no line of a log shows; and a SACK whose one set bit
+-- lies so far ahead of cack
 pub data Label : Type 0 where
   R : ℕ → Label
   S : ℕ → Label
   Given : Label
   Again : Label
   Late : Label
+  HalfOf : Label
   Reason : ℕ → Label
+  Bit : ℕ → Label
 
 -- what a row asks of the bench's connection: an event, or what its receiver keeps
 pub data Asked : Type 0 where
@@ -155,14 +158,21 @@ reasons =
     ∷ look (Reason 4) (kept 16777214 64 0 0)
     ∷ []
 
--- "four sends of 100", S1 to S5, and then a SACK whose cack is behind the place: "its set bits still count"
-abbrev pub sending : List Row
-sending =
+-- "four sends of 100"
+abbrev pub four-sends : List Row
+four-sends =
     row Given (Sends (Send 100)) (done 3 (10 ∷ []) [])
     ∷ row Given (Sends (Send 100)) (done 3 (11 ∷ []) [])
     ∷ row Given (Sends (Send 100)) (done 3 (12 ∷ []) [])
     ∷ row Given (Sends (Send 100)) (done 3 (13 ∷ []) [])
-    ∷ row (S 1) (sacks 13 14 1) (refused 8)
+    ∷ []
+
+-- S1 to S5, and then a SACK whose cack is behind the place: "its set bits still count". 02, No. 3: "Case S1 becomes 17; with cack 12 in its
+-- place it gives 8", and as S2 shows, nothing up to that cack was retired
+abbrev pub sending : List Row
+sending =
+    row (S 1) (sacks 13 14 1) (refused 17)
+    ∷ row HalfOf (sacks 12 14 1) (refused 8)
     ∷ row (S 2) (sacks 9 10 10) (retired 2 9 200)
     ∷ row (S 3) (sacks 9 10 10) (retired 0 9 200)
     ∷ row (S 4) (Sends (Nack (psn 12) 1)) (done 6 (1 ∷ []) [])
@@ -170,6 +180,41 @@ sending =
     ∷ row (S 4) (Sends Resend) (refused 9)
     ∷ row (S 5) (sacks 11 12 0) (retired 1 11 100)
     ∷ row Late (sacks 9 12 1) (retired 1 13 0)
+    ∷ []
+
+-- a SACK with one set bit, bit j of its block, which lies d ahead of cack
+abbrev pub bit : ℕ → ℕ → ℕ → Line → Row
+bit cack d j told = row (Bit d) (sacks cack (after cack (turn + d - j)) (2 ^ j)) told
+
+-- 02, No. 3, on each side of each edge: cack, cack + 1 and cack - 1 are refused and cack + 2 is not; cack + half is behind cack, and
+-- cack + half - 1 is ahead of it, where it names unsent unless it is behind place + 1. Then late, with nothing outstanding, and for a cack
+-- that is unsent itself; 5 comes before, and where no bit is set there is nothing to refuse
+abbrev pub contradicting : List Row
+contradicting =
+    bit 9 0 0 (refused 17)
+    ∷ bit 9 0 63 (refused 17)
+    ∷ bit 9 1 0 (refused 17)
+    ∷ bit 9 1 63 (refused 17)
+    ∷ bit 9 (turn - 1) 0 (refused 17)
+    ∷ bit 9 (turn - 1) 63 (refused 17)
+    ∷ bit 9 half 0 (refused 17)
+    ∷ bit 9 half 63 (refused 17)
+    ∷ bit 9 (half - 1) 0 (refused 8)
+    ∷ bit 9 (half - 1) 63 (refused 8)
+    ∷ row (Bit 1) (sacks 9 10 3) (refused 17)
+    ∷ bit 9 2 63 (retired 1 9 300)
+    ∷ bit 12 half 0 (refused 17)
+    ∷ bit 12 (half - 1) 0 (retired 2 12 100)
+    ∷ bit 9 1 0 (refused 17)
+    ∷ bit 9 4 0 (retired 1 13 0)
+    ∷ bit 9 0 0 (refused 17)
+    ∷ bit 13 1 0 (refused 17)
+    ∷ bit 13 2 0 (refused 8)
+    ∷ bit 20 1 0 (refused 17)
+    ∷ bit 20 2 0 (refused 8)
+    ∷ row (Bit 0) (sacks turn 0 1) (refused 5)
+    ∷ row (Bit 1) (sacks 13 (turn + 14) 1) (refused 5)
+    ∷ row Late (sacks 13 13 0) (retired 0 13 0)
     ∷ []
 
 -- L
@@ -193,7 +238,9 @@ abbrev pub answers-L : List Line
 answers-L = done 1 [] [] ∷ done 3 (10 ∷ []) [] ∷ acked 0 10 11 0 0 ∷ done 0 (3 ∷ []) [] ∷ []
 
 abbrev pub cases : List Case
-cases = Events receiving ∷ Events reasons ∷ Events sending ∷ Records log-L reading-L ∷ Answers log-L answers-L ∷ []
+cases =
+    Events receiving ∷ Events reasons ∷ Events (four-sends ++ sending) ∷ Events (four-sends ++ contradicting)
+    ∷ Records log-L reading-L ∷ Answers log-L answers-L ∷ []
 
 -- a receiver whose count is the last before "a 32-bit count of bytes that wraps"
 abbrev pub nearly-wrapped : Receiver

@@ -7,12 +7,11 @@ use lib.ListN.{length, getD, drop}
 use Rattle.promise.specs.Outcome.{Refusals}
 use Rattle.rules.specs.Numbers.{longest-log}
 use Rattle.rules.specs.Receiving.{arrive-refusals}
-use Rattle.rules.specs.Sending.{send-refusals, sack-refusals, nack-refusals, timer-refusals, resend-refusals}
+use Rattle.rules.specs.Sending.{step-refusals}
 use Rattle.rules.specs.Connection.{Connection, start-refusals, close-refusals}
 use Rattle.rules.specs.Table.{at, taken-refusals, on-refusals}
 use Rattle.rules.specs.Kinds.{kind-of, fields-of, layout, kind-ok}
 use Rattle.rules.specs.Log.{whole, has-mark, high-psn}
-use Rattle.rules.specs.declared.Sending.the-variants as sending
 use Rattle.rules.specs.declared.Use.{Use}
 use Rattle.rules.specs.declared.Use.the-variants as use-of
 use Rattle.rules.specs.declared.Event.{Event}
@@ -21,14 +20,10 @@ use Rattle.rules.specs.declared.Event.the-variants as event
 -- what befalls a connection in use
 unfoldable pub use-refusals : Connection → Use → Refusals
 use-refusals c use-of.Close = close-refusals c
-use-refusals c (use-of.Sends (sending.Send size)) = send-refusals (c .sender) size
-use-refusals c (use-of.Sends (sending.Sack cack b)) = sack-refusals (c .sender) cack b
-use-refusals c (use-of.Sends (sending.Nack p reason)) = nack-refusals (c .sender) p reason
-use-refusals c (use-of.Sends (sending.Timer p)) = timer-refusals (c .sender) p
-use-refusals c (use-of.Sends sending.Resend) = resend-refusals (c .sender)
+use-refusals c (use-of.Sends e) = step-refusals (c .sender) e
 use-refusals c (use-of.Receives a) = arrive-refusals (c .receiver) a
 
--- an event on a slot: "Order: 1, 2 or 3, 4, 5, 6, 14, 15, then 7, 8 or 9"
+-- an event on a slot: "Order: 1, 2 or 3, 4, 5, 6, 14, 15, then 7, 8 or 9", with 17 "after 5 and before 8" (02, No. 3)
 unfoldable pub event-refusals : List Connection → ℕ → Event → Refusals
 event-refusals t slot (event.Start s) = on-refusals t slot ++ (taken-refusals (at t slot) ++ start-refusals s)
 event-refusals t slot (event.Use u) = on-refusals t slot ++ use-refusals (at t slot) u

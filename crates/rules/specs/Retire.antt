@@ -1,4 +1,4 @@
--- 01, The sending side: what a SACK retires.
+-- 01, The sending side: what a SACK says, and what it retires.
 use mathlib.Core.Bool.{Bool, true, false, not, cond, _&&_, _||_}
 use mathlib.Core.List.{List, [], _∷_, map}
 use Prim.Native.Nat.{ℕ, zero, suc, _+_}
@@ -13,6 +13,20 @@ use Rattle.rules.specs.declared.Block.{Block}
 use Rattle.rules.specs.declared.Answer.{Answer}
 use Rattle.rules.specs.declared.Answer.the-variants as answer
 
+-- ---- whether a SACK contradicts itself (02, No. 3)
+-- has a block a set bit whose PSN passes
+unfoldable pub any-set : (ℕ → Bool) → Block → Bool
+any-set f b = any 64 (λ j. bit-at (b .bitmap) j && f (after (b .base .0) j))
+
+-- a PSN that "is cack + 1, or is cack or behind it": cack + 1 is at distance 1 from cack, and cack at distance 0
+unfoldable pub at-odds : ℕ → ℕ → Bool
+at-odds cack p = leb (distance cack p) 1 || behind cack p
+
+-- "any SACK with a set bit" for such a PSN, whatever the sender's record
+unfoldable pub contradicts : ℕ → Block → Bool
+contradicts cack b = any-set (at-odds cack) b
+
+-- ---- whether it names unsent
 -- "cack at distance 0 to (next - 1 - place) from the place retires all to cack; cack behind the place retires nothing by itself;
 -- otherwise it names unsent"
 unfoldable pub unsent-cack : Sender → ℕ → Bool
@@ -23,11 +37,12 @@ up-to x cack = let d = distance (x .place) cack in cond (leb d (outstanding x)) 
 
 -- "Each set bit retires its PSN if outstanding, is ignored if behind place + 1 .., otherwise names unsent"
 unfoldable pub unsent-bit : Sender → Block → Bool
-unsent-bit x b = any 64 (λ j. bit-at (b .bitmap) j && unsent x (after (b .base .0) j))
+unsent-bit x b = any-set (unsent x) b
 
 unfoldable pub names-unsent : Sender → ℕ → Block → Bool
 names-unsent x cack b = unsent-cack x cack || unsent-bit x b
 
+-- ---- what it retires
 -- a set bit names a PSN. "A clear bit says nothing"
 unfoldable pub has-bit : Block → ℕ → Bool
 has-bit b p = let d = distance (b .base .0) p in ltb d 64 && bit-at (b .bitmap) d

@@ -13,7 +13,7 @@ use Rattle.psn.specs.declared.Psn.{Psn}
 use Rattle.psn.specs.Psn.{turn, half, after, distance}
 use Rattle.psn.proofs.Circle.{after-lt, after-after, after-turn, distance-after, ahead as ahead-by}
 use Rattle.lists.specs.Index.{total, weigh, table}
-use Rattle.lists.specs.Lists.{lead, any}
+use Rattle.lists.specs.Lists.{lead}
 use Rattle.lists.proofs.Index.{total-same, total-add, total-none, total-both, total-window, table-same, map-table, drop-table}
 use Rattle.lists.proofs.Joined.{and-true-each, or-false-each, never-true}
 use Rattle.lists.proofs.Lists.{any-some}
@@ -24,7 +24,7 @@ use Rattle.row.specs.Row.{at, bits}
 use Rattle.rules.specs.Numbers.{psn, size-ok, largest-room, words}
 use Rattle.rules.specs.Sender.{Entry, size-held, held, unsent}
 use Rattle.rules.specs.Sender as rule
-use Rattle.rules.specs.Retire.{up-to, unsent-cack, unsent-bit, names-unsent, has-bit, named, retired, retire, newly, is-retired, settle, after-sack, report}
+use Rattle.rules.specs.Retire.{any-set, unsent-cack, unsent-bit, names-unsent, up-to, has-bit, named, retired, retire, newly, is-retired, settle, after-sack, report}
 use Rattle.rules.specs.declared.Block.{Block}
 use Rattle.rules.specs.declared.Answer.the-variants as answer
 use Rattle.rules.proofs.Entries.{retire-table, newly-table}
@@ -131,14 +131,12 @@ module _ (x : Sender) (cack : ℕ) (b : Block) (R″ M″ : List ℕ) (out : Mov
       let e : distance (after a 1) (after a (1 + i)) ≡ i = ahead-by a 1 (1 + i) (omega arith) (omega arith) ∙ omega arith in
       is-past (meaning x) a (x .outstanding) (stands x) (after a (1 + i)) (omega (arith, e)) ∙ ap (λ (j : ℕ). not (leb half j)) e ∙ ap not (lt-leb half i m)
 
-  no-unsent-bit : any 64 (λ j. bit-at (b .bitmap) j && unsent (meaning x) (after (b .base .0) j)) ≡ false
+  no-unsent-bit : any-set (unsent (meaning x)) b ≡ false
   unfolding names-unsent unsent-bit
-  no-unsent-bit =
-      let unsent-at : ℕ → Bool = λ j. bit-at (b .bitmap) j && unsent (meaning x) (after (b .base .0) j) in
-      or-false-each (unsent-cack (meaning x) cack) (any 64 unsent-at) (all .none-unsent) .1
+  no-unsent-bit = or-false-each (unsent-cack (meaning x) cack) (any-set (unsent (meaning x)) b) (all .none-unsent) .1
 
   no-bit-past : (i : ℕ) → x .outstanding ≤ i → i < half → has-bit b (after (x .place .0) (1 + i)) ≡ false
-  unfolding has-bit
+  unfolding has-bit any-set
   no-bit-past i l m =
       let q = after (x .place .0) (1 + i) in
       let base = b .base .0 in

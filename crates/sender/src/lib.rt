@@ -250,7 +250,12 @@ impl Sender {
         if !allowed::psn_ok(block.base) {
             return self.refused(5);
         }
-        if retire::names_unsent(self.place, self.outstanding, cack, block) {
+        let contradicts = retire::contradicts(cack, block);
+        let unsent = retire::names_unsent(self.place, self.outstanding, cack, block);
+        if contradicts {
+            return self.refused(17);
+        }
+        if unsent {
             return self.refused(8);
         }
         self.acknowledge(cack, block)

@@ -29,17 +29,21 @@ past-base : (c : tie.Else3) → Past (tests (c .before .before .before .before .
 unfolding sack-refusals test
 past-base c = past _ 2 (past-cack (c .before .before)) (sym (ap not (c .before .psn-ok2 .ensures)) ∙ c .if3 .left)
 
+past-contradicts : (c : tie.Else4) → Past (tests (c .before .before .before .before .before .before .before .before .before)) 4
+unfolding sack-refusals test
+past-contradicts c = past _ 3 (past-base (c .before .before .before)) (sym (c .before .before .contradicts .ensures) ∙ c .if4 .left)
+
 -- where it is asked, and that it is what the rule asks
 abbrev asked : tie.After-names-unsent → tie.Start
-asked c = c .before .before .before .before .before .before .before
+asked c = c .before .before .before .before .before .before .before .before
 
 unsent-is : (c : tie.After-names-unsent) → c .names-unsent .result
     ≡ names-unsent (meaning (asked c .args .self)) (asked c .args .cack .0) (asked c .args .block)
 unsent-is c = c .names-unsent .ensures (meaning (asked c .args .self)) (stands (asked c .args .self))
 
-past-unsent : (c : tie.Else4) → Past (tests (c .before .before .before .before .before .before .before .before)) 4
+past-unsent : (c : tie.Else5) → Past (tests (c .before .before .before .before .before .before .before .before .before .before)) 5
 unfolding sack-refusals test
-past-unsent c = past _ 3 (past-base (c .before .before)) (sym (unsent-is (c .before)) ∙ c .if4 .left)
+past-unsent c = past _ 4 (past-contradicts (c .before)) (sym (unsent-is (c .before .before)) ∙ c .if5 .left)
 
 refused-requires : tie.Need-refused-requires
 refused-requires c κs = search needs
@@ -80,6 +84,9 @@ returns-3 c =
     let said = c .refused3 .ensures in
     returns-at _ _ refl 2 (past-cack (c .before .before .before)) high (on-refusal (said .0)) (said .1) (entry .pre)
 
+contradicts-requires : tie.Need-contradicts-requires
+contradicts-requires c κs = search needs
+
 names-unsent-requires : tie.Need-names-unsent-requires
 names-unsent-requires c κs = search needs
 
@@ -89,19 +96,30 @@ refused-requires-4 c κs = search needs
 returns-4 : tie.Need-returns-4
 unfolding sack sack-refusals test number
 returns-4 c =
-    let entry = c .before .before .before .before .before .before .before .before .before in
-    let ahead = sym (unsent-is (c .before .before)) ∙ c .before .if4 .taken in
+    let entry = c .before .before .before .before .before .before .before .before .before .before in
+    let odd = sym (c .before .before .before .contradicts .ensures) ∙ c .before .if4 .taken in
     let said = c .refused4 .ensures in
-    returns-at _ _ refl 3 (past-base (c .before .before .before)) ahead (on-refusal (said .0)) (said .1) (entry .pre)
+    returns-at _ _ refl 3 (past-base (c .before .before .before .before)) odd (on-refusal (said .0)) (said .1) (entry .pre)
+
+refused-requires-5 : tie.Need-refused-requires-5
+refused-requires-5 c κs = search needs
+
+returns-5 : tie.Need-returns-5
+unfolding sack sack-refusals test number
+returns-5 c =
+    let entry = c .before .before .before .before .before .before .before .before .before .before .before in
+    let ahead = sym (unsent-is (c .before .before .before)) ∙ c .before .if5 .taken in
+    let said = c .refused5 .ensures in
+    returns-at _ _ refl 4 (past-contradicts (c .before .before)) ahead (on-refusal (said .0)) (said .1) (entry .pre)
 
 acknowledge-requires : tie.Need-acknowledge-requires
 acknowledge-requires c κs =
-    let entry = c .before .before .before .before .before .before .before .before in
-    (in-use (entry .args .self) (entry .pre) (c .before .before .before .before .before .before .if1 .left), sym (unsent-is (c .before)) ∙ c .if4 .left)
+    let entry = c .before .before .before .before .before .before .before .before .before .before in
+    (in-use (entry .args .self) (entry .pre) (c .before .before .before .before .before .before .before .before .if1 .left), sym (unsent-is (c .before .before)) ∙ c .if5 .left)
 
-returns-5 : tie.Need-returns-5
+returns-6 : tie.Need-returns-6
 unfolding sack sack-refusals
-returns-5 c = passes _ _ refl (past-unsent (c .before)) (c .acknowledge .ensures)
+returns-6 c = passes _ _ refl (past-unsent (c .before)) (c .acknowledge .ensures)
 
 pub sack-spec : {M : Type 1} → statement M
 sack-spec =
@@ -115,8 +133,11 @@ sack-spec =
     psn-ok-requires-2
     refused-requires-3
     returns-3
+    contradicts-requires
     names-unsent-requires
     refused-requires-4
     returns-4
+    refused-requires-5
+    returns-5
     acknowledge-requires
-    returns-5)
+    returns-6)
