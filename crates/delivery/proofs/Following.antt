@@ -21,6 +21,7 @@ use Rattle.delivery.specs.Rules as ours
 use Rattle.delivery.specs.Promise.{Keep}
 use Rattle.delivery.proofs.Places.{stays}
 use Rattle.delivery.proofs.Theorem.{delivers}
+use Rattle.delivery.proofs.Never.{never-contradicts}
 
 -- ---- a side that follows another
 pub record Follows {E : Type 0} (S T : Side E) : Type 1 where
@@ -228,6 +229,13 @@ module _ {n : Sides} (F : Following n rules) (s : Start) (x : n .sender .State) 
 
 -- any two sides that follow the rules keep demand 3, with what their records mean
 pub keeps : {n : Sides} (F : Following n rules) → Keep n (F .sender .meaning) (F .receiver .meaning)
+unfolding meant
 keeps F s x r b c w run =
     let ours-run = rules-run F s x r b c w run in
-    record { run = ours-run; promise = delivers s _ ours-run }
+    let K = follows F (begin-kept F s x r b c) run .kept in
+    record {
+      run = ours-run;
+      promise = delivers s _ ours-run;
+      consistent = λ m there a y g.
+          never-contradicts s _ ours-run m there a (F .sender .meaning y) (F .sender .steps (w .sending) (hearing (m .reply)) a y (K .of-sender) g .0);
+    }

@@ -16,6 +16,7 @@ use Rattle.word.specs.Word.{bit-at}
 use Rattle.rules.specs.Numbers.{turn, half, after, before, distance, trimmed, trimmed-last-hop, no-buffer}
 use Rattle.lists.specs.Lists.{lead}
 use Rattle.rules.specs.Receiver.{Receiver, room, unused, fresh, judge, known, beyond, verdict, accept, counted, block-at, block, sack-of}
+use Rattle.rules.specs.Retire.{contradicts}
 use Rattle.rules.specs.declared.Arrival.{Arrival}
 use Rattle.rules.specs.declared.Sack.{Sack}
 use Rattle.rules.specs.declared.Verdict.the-variants.{Fresh, Known}
@@ -24,6 +25,7 @@ use Rattle.lists.proofs.Lists.{lead-true, lead-false, lead-le, getD-alike, getD
 use Rattle.delivery.specs.Network.{Start}
 use Rattle.delivery.specs.Wire.{Near, base-number}
 use Rattle.rules.proofs.Packed.{bit-pack}
+use Rattle.rules.proofs.Contradicts.{honest}
 use Rattle.delivery.proofs.Rooms.{room-used, room-few}
 use Rattle.delivery.proofs.Places.{past-one, moved}
 use Rattle.delivery.proofs.Sets.{plus, plus-same, plus-other, plus-more, Missing}
@@ -156,6 +158,7 @@ pub record Tells (s : Start) (A : ℕ → Bool) (here : ℕ) (k : Sack) : Type 0
   pub base-is : k .block .base .0 ≡ after (s .first) (base-number here k)
   pub to-cack : (i : ℕ) → i < here → A i ≡ true
   pub bits : (j : ℕ) → bit-at (k .block .bitmap) j ≡ true → A (base-number here k + j) ≡ true
+  pub consistent : contradicts (k .cack .0) (k .block) ≡ false
 
 -- a SACK says of packet i that it is accepted: by its cack, or by a bit of its block
 pub data Says (here : ℕ) (k : Sack) (i : ℕ) : Type 0 where
@@ -201,6 +204,8 @@ module _ {s : Start} {A : ℕ → Bool} {r : Receiver} {at : ℕ} (H : Holds s A
         bits = λ j e.
             ap (λ (x : ℕ). A (x + j)) (base-is-at a) ∙ ap A (add-assoc at o j) ∙ sym (H .window-is (o + j)) ∙ sym (getD-drop o (r .window) j false)
             ∙ take-true 64 (drop o (r .window)) j (sym (bit-pack (take 64 (drop o (r .window))) j) ∙ e);
+        consistent = honest r a (omega (arith, H .room-is, room-few (s .receive-room) (s .receive-good)))
+            (H .window-is 0 ∙ ap A (omega arith) ∙ H .missing .first);
       }
 
   -- the block is the one that has the packet's own PSN

@@ -87,6 +87,7 @@ told-more s A B n m more h note (Acks b k) T =
         base-is = U .base-is;
         to-cack = λ i h. more i (U .to-cack i h);
         bits = λ j e. more _ (U .bits j e);
+        consistent = U .consistent;
       };
       says = T .says;
     }

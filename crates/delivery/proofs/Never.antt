@@ -1,19 +1,30 @@
--- What a run never meets: the sender's room is no larger than the receiver's, so no packet is beyond the window, and every reply names
--- packets that were sent, so none is refused. Assumes nothing.
-use mathlib.Core.Path.{_≡_, refl}
-use mathlib.Core.Bool.{Bool, true, false}
+-- What a run never meets: the sender's room is no larger than the receiver's, so no packet is beyond the window; every reply names packets
+-- that were sent, so none is refused; and E is not accepted and no block begins behind it, so none is answered 17, wherever its numbers lie.
+-- Assumes nothing.
+use mathlib.Core.Path.{_≡_, refl, sym, ap, _∙_}
+use mathlib.Core.Bool.{Bool, true, false, false≢true}
+use mathlib.Core.Logic.{_≢_}
 use native.Mathlib.Omega.{arith}
 use lib.ListN.{length}
-use borrow.Author.Tests.{leb-true}
+use borrow.Author.Tests.{leb-true, eq-eqb}
+use Rattle.promise.specs.Line.{Line}
+use Rattle.promise.specs.Outcome.{on-paper}
 use Rattle.rules.specs.Numbers.{distance, trimmed, trimmed-last-hop, no-buffer}
 use Rattle.rules.specs.Receiver.{room, judge, known, beyond, verdict}
+use Rattle.rules.specs.Sender.{Sender}
 use Rattle.rules.specs.Sending.{step}
+use Rattle.rules.specs.Paper.{paper, answered}
+use Rattle.rules.specs.declared.Sending.{Sending}
+use Rattle.rules.specs.declared.Answer.{Answer}
+use Rattle.rules.specs.declared.Answer.the-variants as answer
 use Rattle.rules.specs.declared.Verdict.the-variants.{Beyond}
 use Rattle.delivery.specs.Wire.{Reply, Acks, Nacks, hearing, Note, arrival, Readable}
 use Rattle.delivery.specs.Network.{Start}
-use Rattle.delivery.specs.Rules.{World}
+use Rattle.delivery.specs.Rules.{given, World}
 use Rattle.delivery.specs.Promise.{among}
-use Rattle.delivery.specs.Sense.{NeverBeyond, Taken, NeverRefused}
+use Rattle.delivery.specs.Sense.{NeverBeyond, Taken, NeverRefused, NeverContradicts}
+use Rattle.rules.proofs.Settled.{answered-paper}
+use Rattle.rules.proofs.Contradicts.{contradicted, seventeen}
 use Rattle.delivery.proofs.Holds.{not-known}
 use Rattle.delivery.proofs.Taken.{nack-taken, sack-taken}
 use Rattle.delivery.proofs.Invariant.{Told, Inv, not-ahead, invariant}
@@ -46,3 +57,21 @@ taken I n (Nacks k) T R = nack-taken (I .keeps) (n .about) (k .psn) (k .reason) 
 
 pub never-refused : NeverRefused
 never-refused s w run n m R = let I = invariant run in taken I n (n .reply) (I .told n m) R
+
+-- ---- what is answered 17 is a SACK that contradicts itself
+not-contradicted : {s : Start} {w : World} → Inv s w → (x : Sender) (n : Note) (q : Reply) → Told s (among (w .accepted)) (length (w .sent)) n q
+    → contradicted x (hearing q) ≡ false
+unfolding Told hearing contradicted
+not-contradicted I x n (Acks b k) T = rw (T .tells .consistent)
+not-contradicted I x n (Nacks k) T = refl
+
+not-seventeen : (x : Sender) (e : Sending) → contradicted x e ≡ false → answered (step x e) ≢ answer.Refused 17
+unfolding paper
+not-seventeen x e h is =
+    let number : on-paper paper (step x e) .number ≡ 17 = ap (λ (l : Line). l .number) (answered-paper (step x e)) ∙ ap (λ (a : Answer). paper a .number) is in
+    false≢true (sym h ∙ sym (seventeen x e) ∙ eq-eqb _ 17 number)
+
+pub never-contradicts : NeverContradicts
+never-contradicts s w run m there a x given =
+    let I = invariant run in
+    not-seventeen (w .sending) (hearing (m .reply)) (not-contradicted I (w .sending) m (m .reply) (I .told m there))

@@ -16,7 +16,7 @@ use Rattle.rules.specs.Numbers.{turn, half, after, distance, reason-ok}
 use Rattle.lists.specs.Lists.{lead}
 use Rattle.promise.specs.Outcome.{Outcome, Done, unless}
 use Rattle.rules.specs.Sender.{Entry, Sender, outstanding, nth, index, unsent}
-use Rattle.rules.specs.Retire.{is-retired, retire, named, up-to, unsent-cack, unsent-bit, names-unsent, after-sack, report, acknowledged}
+use Rattle.rules.specs.Retire.{is-retired, retire, named, up-to, any-set, unsent-cack, unsent-bit, names-unsent, after-sack, report, acknowledged}
 use Rattle.rules.specs.Marks.{markable, mark, nacked}
 use Rattle.rules.specs.Sending.{sack-refusals, sack, nack-refusals, nack}
 use Rattle.rules.specs.declared.Answer.{Answer}
@@ -105,12 +105,12 @@ module _ {s : Start} {A : ℕ → Bool} {n : ℕ} {x : Sender} {low : ℕ} (K : 
           was-sent (b + j) p is (bound _ (T .bits j e)) (bits-near j h e)
 
       all-sent : names-unsent x (k .cack .0) (k .block) ≡ false
-      unfolding names-unsent unsent-bit
+      unfolding names-unsent unsent-bit any-set
       all-sent = rw cack-sent (any-none 64 _ (λ j h. not-both (bit-at (k .block .bitmap) j) _ (bit-sent j h)))
 
       pub sack-taken : sack x (k .cack) (k .block) ≡ Done (after-sack x (k .cack .0) (k .block)) (report x (k .cack .0) (k .block))
       unfolding sack sack-refusals unless acknowledged
-      sack-taken = rw (sender-used K, psn-good (k .cack .0) (s .first) _ cack-at, psn-good (k .block .base .0) (s .first) _ (T .base-is), all-sent)
+      sack-taken = rw (sender-used K, psn-good (k .cack .0) (s .first) _ cack-at, psn-good (k .block .base .0) (s .first) _ (T .base-is), T .consistent, all-sent)
 
       pub sack-moves : low < here → 0 < moves x k
       unfolding named up-to

@@ -1,7 +1,8 @@
 -- Demand 3, what is promised of every world that a run reaches from its start.
 use mathlib.Core.Path.{_≡_}
 use mathlib.Core.Bool.{Bool, true, false, cond, _||_}
-use mathlib.Core.List.{List, [], _∷_, map}
+use mathlib.Core.List.{List, [], _∷_, map, List·Memᴰ}
+use mathlib.Core.Logic.{_≢_}
 use Prim.Native.Nat.{ℕ, _+_, _%_, _^_, _<_}
 use lib.Dec.{eqb}
 use lib.ListN.{length, getD}
@@ -16,6 +17,8 @@ use Rattle.rules.specs.Sender as sender
 use Rattle.rules.specs.Sending.{send, step}
 use Rattle.rules.specs.Retire.{is-retired}
 use Rattle.rules.specs.declared.Arrival.{Arrival}
+use Rattle.rules.specs.declared.Answer.{Answer}
+use Rattle.rules.specs.declared.Answer.the-variants as answer
 use Rattle.delivery.specs.Network.{Start, opening, Sides, Worlds, meant}
 use Rattle.delivery.specs.Network as network
 use Rattle.delivery.specs.Wire.{Reply, Acks, Nacks, hearing, Message, Silent, Goes, Replies, message, Note}
@@ -100,13 +103,21 @@ pub record Promise (s : Start) (w : World) : Type 0 where
 abbrev pub Delivers : Type 0
 Delivers = (s : Start) (w : World) → Run (begin s) w → Promise s w
 
--- ---- the same of any two sides, whose records mean the rules': their world is one of the rules' runs, and so the promise is kept
-pub record Kept (s : Start) (w : World) : Type 0 where
-  pub run : Run (begin s) w
-  pub promise : Promise s w
+-- ---- 02, No. 3: "no reply of its runs is answered 17", whenever the sender hears it and wherever its numbers lie
+abbrev pub Consistent : (n : Sides) → Worlds n → Type 0
+Consistent n w =
+    (m : Note) → List·Memᴰ m (w .notes) → (a : Answer) (x : n .sender .State) → n .sender .Steps (w .sending) (hearing (m .reply)) a x
+    → a ≢ answer.Refused 17
+
+-- ---- the same of any two sides, whose records mean the rules': their world is one of the rules' runs, and so the promise is kept; and
+-- their own answer to a reply of the run is never 17
+pub record Kept (n : Sides) (sends : n .sender .State → Sender) (receives : n .receiver .State → Receiver) (s : Start) (w : Worlds n) : Type 0 where
+  pub run : Run (begin s) (meant sends receives w)
+  pub promise : Promise s (meant sends receives w)
+  pub consistent : Consistent n w
 
 abbrev pub Keep : (n : Sides) → (n .sender .State → Sender) → (n .receiver .State → Receiver) → Type 0
 Keep n sends receives =
     (s : Start) (x : n .sender .State) (r : n .receiver .State)
     → n .sender .Begins (opening s (s .send-room)) x → n .receiver .Begins (opening s (s .receive-room)) r
-    → (w : Worlds n) → network.Run n (network.begin x r) w → Kept s (meant sends receives w)
+    → (w : Worlds n) → network.Run n (network.begin x r) w → Kept n sends receives s w

@@ -9,7 +9,8 @@ use Rattle.rules.specs.declared.Answer.{Answer}
 use Rattle.rules.specs.declared.Verdict.the-variants.{Beyond}
 use Rattle.delivery.specs.Network.{Start}
 use Rattle.delivery.specs.Wire.{Packet, Fate, Reply, hearing, Note, arrival, Near, Readable}
-use Rattle.delivery.specs.Rules.{World, Run, begin}
+use Rattle.delivery.specs.Rules.{rules, World, Run, begin}
+use Rattle.delivery.specs.Promise.{Consistent}
 
 -- no packet of a run is beyond the receiver's window, so no NACK of a run has reason 3
 abbrev pub NeverBeyond : Type 0
@@ -25,6 +26,10 @@ Taken x r = (y : Sender) × (a : Answer) × (step x (hearing r) ≡ Done y a)
 abbrev pub NeverRefused : Type 0
 NeverRefused =
     (s : Start) (w : World) → Run (begin s) w → (n : Note) → List·Memᴰ n (w .notes) → Readable (w .low) n (n .reply) → Taken (w .sending) (n .reply)
+
+-- no reply of a run contradicts itself: none is answered 17 (02, No. 3)
+abbrev pub NeverContradicts : Type 0
+NeverContradicts = (s : Start) (w : World) → Run (begin s) w → Consistent rules w
 
 -- by some further events every packet of a run is retired: the last of demand 3's conclusions is never empty
 pub record Ended (w v : World) : Type 0 where

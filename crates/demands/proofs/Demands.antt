@@ -23,6 +23,7 @@ use Rattle.event_log.specs.Parts.{Writes}
 use Rattle.event_log.proofs.RoundTrip.{written-read, read-written}
 use Rattle.text.proofs.Writing.{writes-replay}
 use Rattle.delivery.proofs.Theorem.{delivers}
+use Rattle.delivery.proofs.Never.{never-contradicts}
 use Rattle.delivery.proofs.DoesEnd.{does-end, settles}
 use Rattle.delivery.proofs.Fair.{goes-on}
 use Rattle.bridge.proofs.Engines.{engines-keep}
@@ -70,6 +71,7 @@ demand-2 = record {
 pub demand-3 : Demand3
 demand-3 = record {
   rules = delivers;
+  never-contradicts = never-contradicts;
   engines = engines-keep;
   connections = connections-keep;
   tables = tables-keep;

@@ -30,6 +30,7 @@ use Rattle.player.specs.Play.{begin}
 use Rattle.text.specs.Text.{head-text, text-of}
 use Rattle.text.specs.Piece as piece
 use Rattle.delivery.specs.Promise.{Delivers}
+use Rattle.delivery.specs.Sense.{NeverContradicts}
 use Rattle.delivery.specs.Progress.{DoesEnd, Settles, GoesOn}
 use Rattle.bridge.specs.Engines.{EnginesKeep}
 use Rattle.bridge.specs.Connections.{ConnectionsKeep}
@@ -75,10 +76,12 @@ pub record Demand2 : Type 0 where
       → (r ≡ Length (next - place)) × (after ≡ take (next - place) (drop place log) ++ drop (next - place) before)
 
 -- Its premises are `Start` and `Run` of delivery's Network and Wire, its conclusions `Promise` of delivery's Promise; 02, No. 4 amends them:
--- the receiver's count is not compared, and is the sum over the arrivals that a SACK answered.
+-- the receiver's count is not compared, and is the sum over the arrivals that a SACK answered. 02, No. 3 adds what "should follow".
 pub record Demand3 : Type 0 where
   -- of the rules' own sender and receiver, in every run
   pub rules : Delivers
+  -- "no reply of its runs is answered 17" (02, No. 3); of the card's own records it is `consistent` of what they keep
+  pub never-contradicts : NeverContradicts
   -- of the engines by value, of two connections by value, and of two sides in tables while anything else happens there
   pub engines : EnginesKeep
   pub connections : ConnectionsKeep

@@ -44,20 +44,23 @@ at-odds-is cack p l m = ap (λ (b : Bool). b || behind cack p) (go (ℕ-discrete
 -- ---- "It is checked after 5 and before 8, and not given otherwise"
 unfoldable pub contradicted : Sender → Sending → Bool
 contradicted x (sending.Send size) = false
-contradicted x (sending.Sack cack b) = ((not (unused x) && psn-ok cack) && psn-ok (b .base)) && contradicts (cack .0) b
+contradicted x (sending.Sack cack b) = contradicts (cack .0) b && not (unused x) && psn-ok cack && psn-ok (b .base)
 contradicted x (sending.Nack p reason) = false
 contradicted x (sending.Timer p) = false
 contradicted x sending.Resend = false
 
 -- by the tests, one after the other
-five : (u c b k n : Bool) → eqb (first-of ((u, 2) ∷ (not c, 5) ∷ (not b, 5) ∷ (k, 17) ∷ (n, 8) ∷ [])) 17 ≡ (((not u && c) && b) && k)
+five : (k u c b n : Bool) → eqb (first-of ((u, 2) ∷ (not c, 5) ∷ (not b, 5) ∷ (k, 17) ∷ (n, 8) ∷ [])) 17 ≡ (k && not u && c && b)
 unfolding first-of
-five true c b k n = refl
-five false false b k n = refl
-five false true false k n = refl
-five false true true true n = refl
-five false true true false true = refl
-five false true true false false = refl
+five true true c b n = refl
+five true false false b n = refl
+five true false true false n = refl
+five true false true true n = refl
+five false true c b n = refl
+five false false false b n = refl
+five false false true false n = refl
+five false false true true true = refl
+five false false true true false = refl
 
 -- a list in which 17 does not stand
 other : (l : Refusals) → All (λ r. eqb (r .1) 17 ≡ false) l → eqb (first-of l) 17 ≡ false
@@ -69,7 +72,7 @@ other ((false, n) ∷ l) h = other l (h .1)
 by-list : (x : Sender) (e : Sending) → eqb (first-of (step-refusals x e)) 17 ≡ contradicted x e
 unfolding step-refusals send-refusals sack-refusals nack-refusals timer-refusals resend-refusals contradicted All
 by-list x (sending.Send size) = other (send-refusals x size) (refl, (refl, (refl, tt)))
-by-list x (sending.Sack cack b) = five (unused x) (psn-ok cack) (psn-ok (b .base)) (contradicts (cack .0) b) _
+by-list x (sending.Sack cack b) = five (contradicts (cack .0) b) (unused x) (psn-ok cack) (psn-ok (b .base)) _
 by-list x (sending.Nack p reason) = other (nack-refusals x p reason) (refl, (refl, (refl, (refl, tt))))
 by-list x (sending.Timer p) = other (timer-refusals x p) (refl, (refl, (refl, tt)))
 by-list x sending.Resend = other (resend-refusals x) (refl, (refl, tt))
