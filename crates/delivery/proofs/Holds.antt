@@ -25,7 +25,7 @@ use Rattle.lists.proofs.Lists.{lead-true, lead-false, lead-le, getD-alike, getD
 use Rattle.delivery.specs.Network.{Start}
 use Rattle.delivery.specs.Wire.{Near, base-number}
 use Rattle.rules.proofs.Packed.{bit-pack}
-use Rattle.rules.proofs.Contradicts.{honest}
+use Rattle.rules.proofs.Contradicts.{all-past}
 use Rattle.delivery.proofs.Rooms.{room-used, room-few}
 use Rattle.delivery.proofs.Places.{past-one, moved}
 use Rattle.delivery.proofs.Sets.{plus, plus-same, plus-other, plus-more, Missing}
@@ -193,6 +193,22 @@ module _ {s : Start} {A : ℕ → Bool} {r : Receiver} {at : ℕ} (H : Holds s A
       let base : after (r .expected) o ≡ after (s .first) (at + o) = ap (λ (p : ℕ). after p o) (H .expected-is) ∙ after-after (s .first) at o in
       ap (λ (x : ℕ). at + x) (moved (s .first) at o _ _ up base (block-few (a .psn .0)))
 
+  -- a set bit is an entry of the window, past E and not half round the circle
+  bit-entry : (a : Arrival) (j : ℕ) → bit-at (sack-of r a .block .bitmap) j ≡ true → getD (r .window) (block-at r (a .psn .0) + j) false ≡ true
+  unfolding sack-of block
+  bit-entry a j e =
+      let rest = drop (block-at r (a .psn .0)) (r .window) in
+      sym (getD-drop (block-at r (a .psn .0)) (r .window) j false) ∙ take-true 64 rest j (sym (bit-pack (take 64 rest) j) ∙ e)
+
+  past-expected : (i : ℕ) → getD (r .window) i false ≡ true → 0 < i
+  past-expected i e = elim (ℕ-discrete i 0) [
+    | yes z ↦ absurd (false≢true (sym (H .missing .first) ∙ ap A (omega arith) ∙ sym (H .window-is i) ∙ e))
+    | no z ↦ omega arith
+  ]
+
+  not-half : (i : ℕ) → getD (r .window) i false ≡ true → i + 1 < half
+  not-half i e = omega (arith, in-range (r .window) i e, H .room-is, room-few (s .receive-room) (s .receive-good))
+
   pub sack-tells : (a : Arrival) → Tells s A at (sack-of r a)
   unfolding sack-of block
   sack-tells a =
@@ -201,11 +217,8 @@ module _ {s : Start} {A : ℕ → Bool} {r : Receiver} {at : ℕ} (H : Holds s A
         cack-is = ap before (H .expected-is);
         base-is = ap (λ (p : ℕ). after p o) (H .expected-is) ∙ after-after (s .first) at o ∙ ap (after (s .first)) (sym (base-is-at a));
         to-cack = H .missing .below;
-        bits = λ j e.
-            ap (λ (x : ℕ). A (x + j)) (base-is-at a) ∙ ap A (add-assoc at o j) ∙ sym (H .window-is (o + j)) ∙ sym (getD-drop o (r .window) j false)
-            ∙ take-true 64 (drop o (r .window)) j (sym (bit-pack (take 64 (drop o (r .window))) j) ∙ e);
-        consistent = honest r a (omega (arith, H .room-is, room-few (s .receive-room) (s .receive-good)))
-            (H .window-is 0 ∙ ap A (omega arith) ∙ H .missing .first);
+        bits = λ j e. ap (λ (x : ℕ). A (x + j)) (base-is-at a) ∙ ap A (add-assoc at o j) ∙ sym (H .window-is (o + j)) ∙ bit-entry a j e;
+        consistent = all-past (r .expected) o _ (λ j l e. (past-expected (o + j) (bit-entry a j e), not-half (o + j) (bit-entry a j e)));
       }
 
   -- the block is the one that has the packet's own PSN

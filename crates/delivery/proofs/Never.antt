@@ -7,8 +7,6 @@ use mathlib.Core.Logic.{_≢_}
 use native.Mathlib.Omega.{arith}
 use lib.ListN.{length}
 use borrow.Author.Tests.{leb-true, eq-eqb}
-use Rattle.promise.specs.Line.{Line}
-use Rattle.promise.specs.Outcome.{on-paper}
 use Rattle.rules.specs.Numbers.{distance, trimmed, trimmed-last-hop, no-buffer}
 use Rattle.rules.specs.Receiver.{room, judge, known, beyond, verdict}
 use Rattle.rules.specs.Sender.{Sender}
@@ -23,7 +21,6 @@ use Rattle.delivery.specs.Network.{Start}
 use Rattle.delivery.specs.Rules.{given, World}
 use Rattle.delivery.specs.Promise.{among}
 use Rattle.delivery.specs.Sense.{NeverBeyond, Taken, NeverRefused, NeverContradicts}
-use Rattle.rules.proofs.Settled.{answered-paper}
 use Rattle.rules.proofs.Contradicts.{contradicted, seventeen}
 use Rattle.delivery.proofs.Holds.{not-known}
 use Rattle.delivery.proofs.Taken.{nack-taken, sack-taken}
@@ -67,9 +64,7 @@ not-contradicted I x n (Nacks k) T = refl
 
 not-seventeen : (x : Sender) (e : Sending) → contradicted x e ≡ false → answered (step x e) ≢ answer.Refused 17
 unfolding paper
-not-seventeen x e h is =
-    let number : on-paper paper (step x e) .number ≡ 17 = ap (λ (l : Line). l .number) (answered-paper (step x e)) ∙ ap (λ (a : Answer). paper a .number) is in
-    false≢true (sym h ∙ sym (seventeen x e) ∙ eq-eqb _ 17 number)
+not-seventeen x e h is = false≢true (sym h ∙ sym (seventeen x e) ∙ eq-eqb _ 17 (ap (λ (a : Answer). paper a .number) is))
 
 pub never-contradicts : NeverContradicts
 never-contradicts s w run m there a x given =

@@ -1,34 +1,26 @@
--- 02, No. 3, of every record: which events are answered 17, and that no receiver's own SACK is. Assumes nothing.
+-- 02, No. 3, of every record: which events are answered 17, and which SACKs are not. Assumes nothing.
 use mathlib.Core.Path.{_≡_, refl, sym, ap, _∙_}
-use mathlib.Core.Bool.{Bool, true, false, not, _&&_, _||_, false≢true}
+use mathlib.Core.Bool.{Bool, true, false, not, _&&_, _||_}
 use mathlib.Core.List.{[], _∷_}
 use Prim.Native.Nat.{ℕ, _+_, _-_, _<_}
 use native.Mathlib.Omega.{arith}
 use native.Mathlib.Decide.{ℕ-discrete}
 use lib.Dec.{leb, eqb}
-use lib.ListN.{getD, take, drop}
-use lib.Seq.{getD-take, getD-drop}
 use borrow.Author.Tests.{eq-eqb, ne-eqb, le-leb, lt-leb}
 use Rattle.psn.proofs.Circle.{after-after, after-turn, ahead}
 use Rattle.word.specs.Word.{bit-at}
 use Rattle.lists.specs.Lists.{All}
-use Rattle.lists.proofs.Lists.{any-none, in-range}
-use Rattle.promise.specs.Outcome.{Refusals, first-of, left, on-paper}
-use Rattle.rules.specs.Numbers.{turn, half, before, behind, after, distance, psn-ok}
-use Rattle.rules.specs.Receiver.{Receiver, room, block-at, block, sack-of}
-use Rattle.rules.specs.Receiving.{arrive}
-use Rattle.rules.specs.Receiving as receiving
+use Rattle.lists.proofs.Lists.{any-none}
+use Rattle.promise.specs.Line.{Line}
+use Rattle.promise.specs.Outcome.{Refusals, first-of}
+use Rattle.rules.specs.Numbers.{turn, half, before, behind, after, distance, psn, psn-ok}
 use Rattle.rules.specs.Sender.{Sender, unused}
 use Rattle.rules.specs.Retire.{any-set, at-odds, contradicts}
 use Rattle.rules.specs.Sending.{step, step-refusals, send-refusals, sack-refusals, nack-refusals, timer-refusals, resend-refusals}
-use Rattle.rules.specs.Paper.{paper}
-use Rattle.rules.specs.Kept.{Receives}
-use Rattle.rules.specs.declared.Arrival.{Arrival}
+use Rattle.rules.specs.Paper.{paper, answered}
 use Rattle.rules.specs.declared.Sending.{Sending}
 use Rattle.rules.specs.declared.Sending.the-variants as sending
-use Rattle.rules.proofs.Allowed.{room-numbers}
-use Rattle.rules.proofs.Packed.{bit-pack}
-use Rattle.rules.proofs.Receives.{receives-step}
+use Rattle.rules.proofs.Settled.{answered-paper}
 use Rattle.rules.proofs.Numbered.{number-first, sending-splits}
 
 -- ---- "a set bit whose PSN is cack + 1, or is cack or behind it", of two PSNs
@@ -77,43 +69,24 @@ by-list x (sending.Nack p reason) = other (nack-refusals x p reason) (refl, (ref
 by-list x (sending.Timer p) = other (timer-refusals x p) (refl, (refl, (refl, tt)))
 by-list x sending.Resend = other (resend-refusals x) (refl, (refl, tt))
 
-pub seventeen : (x : Sender) (e : Sending) → eqb (on-paper paper (step x e) .number) 17 ≡ contradicted x e
-seventeen x e = ap (λ (n : ℕ). eqb n 17) (number-first (sending-splits x e)) ∙ by-list x e
+pub seventeen : (x : Sender) (e : Sending) → eqb (paper (answered (step x e)) .number) 17 ≡ contradicted x e
+seventeen x e =
+    let number : paper (answered (step x e)) .number ≡ first-of (step-refusals x e) =
+    ap (λ (l : Line). l .number) (sym (answered-paper (step x e))) ∙ number-first (sending-splits x e) in
+    ap (λ (n : ℕ). eqb n 17) number ∙ by-list x e
 
--- ---- "No honest receiver does that": E is not accepted, and a block's base is not behind E
-module _ (r : Receiver) (a : Arrival) (few : room r < half) (not-yet : getD (r .window) 0 false ≡ false) where
-  abbrev o : ℕ
-  o = block-at r (a .psn .0)
+-- ---- a block that begins o after E, and whose set bits are past E and not half round the circle: the cack before E says nothing of them
+past-cack : (E i : ℕ) → i < half → distance (before E) (after E i) ≡ i + 1
+past-cack E i l = ap (distance (before E)) (sym (after-turn E i)) ∙ ahead E (turn - 1) (i + turn) (omega arith) (omega arith) ∙ omega arith
 
-  -- bit j is that of E + o + j, which lies o + j + 1 after cack
-  past : (j : ℕ) → o + j < half → distance (before (r .expected)) (after (after (r .expected) o) j) ≡ o + j + 1
-  past j l =
-      let E = r .expected in
-      ap (distance (before E)) (after-after E o j ∙ sym (after-turn E (o + j))) ∙ ahead E (turn - 1) (o + j + turn) (omega arith) (omega arith) ∙ omega arith
-
-  honest-bit : (j : ℕ) → j < 64 → (b : Bool) → getD (r .window) (o + j) false ≡ b → (b && at-odds (before (r .expected)) (after (after (r .expected) o) j)) ≡ false
-  unfolding at-odds
-  honest-bit j l false e = refl
-  honest-bit j l true e = go (ℕ-discrete (o + j) 0)
-    where
-      go : Dec (o + j ≡ 0) → at-odds (before (r .expected)) (after (after (r .expected) o) j) ≡ false
-      go (yes z) = absurd (false≢true (sym not-yet ∙ sym (ap (λ (i : ℕ). getD (r .window) i false) z) ∙ e))
-      go (no z) =
-          let inside = in-range (r .window) (o + j) e in
-          rw (past j (omega arith), lt-leb (o + j + 1) 1 (omega arith), lt-leb half (o + j + 1) (omega arith))
-
-  pub honest : contradicts (sack-of r a .cack .0) (sack-of r a .block) ≡ false
-  unfolding contradicts any-set sack-of block
-  honest = any-none 64 _ λ j l.
-      let rest = drop o (r .window) in
-      let bit : bit-at (block r (a .psn .0) .bitmap) j ≡ getD (r .window) (o + j) false =
-      bit-pack (take 64 rest) j ∙ getD-take 64 rest j false l ∙ getD-drop o (r .window) j false in
-      ap (λ (b : Bool). b && at-odds (before (r .expected)) (after (after (r .expected) o) j)) bit ∙ honest-bit j l _ refl
-
--- so no receiver sends one, from its start on: the SACK of an arrival is that of the record after it (`reply-by-answer` in Counts)
-pub receiver-honest : (r : Receiver) (a : Arrival) → Receives r
-    → let k = sack-of (left r (arrive r a)) a in contradicts (k .cack .0) (k .block) ≡ false
-unfolding receiving.step
-receiver-honest r a h =
-    let K = receives-step r a h .holds in
-    honest (left r (arrive r a)) a (omega (arith, room-numbers _ (K .room-good))) (K .expected-open)
+pub all-past : (E o bitmap : ℕ) → ((j : ℕ) → j < 64 → bit-at bitmap j ≡ true → (0 < o + j) × (o + j + 1 < half))
+    → contradicts (before E) (record { base = psn (after E o); bitmap = bitmap }) ≡ false
+unfolding contradicts any-set at-odds
+all-past E o bitmap h = any-none 64 _ (λ j l. go j (bit-at bitmap j) (h j l))
+  where
+    go : (j : ℕ) (b : Bool) → (b ≡ true → (0 < o + j) × (o + j + 1 < half)) → (b && at-odds (before E) (after (after E o) j)) ≡ false
+    go j false k = refl
+    go j true k =
+        let d = o + j + 1 in
+        let is : distance (before E) (after (after E o) j) ≡ d = ap (distance (before E)) (after-after E o j) ∙ past-cack E (o + j) (omega (arith, k refl)) in
+        rw (is, lt-leb d 1 (omega (arith, k refl)), lt-leb half d (omega (arith, k refl)))

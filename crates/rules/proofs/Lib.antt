@@ -22,3 +22,4 @@ pub mod Apart
 pub mod Settled
 pub mod Numbered
 pub mod Contradicts
+pub mod Honest
