@@ -2,26 +2,29 @@
 -- that were sent, so none is refused; and E is not accepted and no block begins behind it, so none is answered 17, wherever its numbers lie.
 -- Assumes nothing.
 use mathlib.Core.Path.{_≡_, refl, sym, ap, _∙_}
-use mathlib.Core.Bool.{Bool, true, false, false≢true}
+use mathlib.Core.Bool.{Bool, true, false, cond, false≢true}
+use mathlib.Core.List.{map}
 use mathlib.Core.Logic.{_≢_}
 use native.Mathlib.Omega.{arith}
-use lib.ListN.{length}
-use borrow.Author.Tests.{leb-true, eq-eqb}
+use lib.Dec.{leb}
+use lib.ListN.{length, getD}
+use borrow.Author.Tests.{leb-true}
+use Rattle.promise.specs.Outcome.{Outcome}
 use Rattle.rules.specs.Numbers.{distance, trimmed, trimmed-last-hop, no-buffer}
 use Rattle.rules.specs.Receiver.{room, judge, known, beyond, verdict}
-use Rattle.rules.specs.Sender.{Sender}
-use Rattle.rules.specs.Sending.{step}
+use Rattle.rules.specs.Sender.{Sender, index}
+use Rattle.rules.specs.Retire.{report, acknowledged}
+use Rattle.rules.specs.Marks.{markable, mark, nacked}
+use Rattle.rules.specs.Sending.{sack-refusals, sack, nack-refusals, nack, step}
 use Rattle.rules.specs.Paper.{paper, answered}
-use Rattle.rules.specs.declared.Sending.{Sending}
 use Rattle.rules.specs.declared.Answer.{Answer}
-use Rattle.rules.specs.declared.Answer.the-variants as answer
 use Rattle.rules.specs.declared.Verdict.the-variants.{Beyond}
 use Rattle.delivery.specs.Wire.{Reply, Acks, Nacks, hearing, Note, arrival, Readable}
 use Rattle.delivery.specs.Network.{Start}
 use Rattle.delivery.specs.Rules.{given, World}
 use Rattle.delivery.specs.Promise.{among}
 use Rattle.delivery.specs.Sense.{NeverBeyond, Taken, NeverRefused, NeverContradicts}
-use Rattle.rules.proofs.Contradicts.{contradicted, seventeen}
+use Rattle.promise.proofs.Refusing.{Each, through-each}
 use Rattle.delivery.proofs.Holds.{not-known}
 use Rattle.delivery.proofs.Taken.{nack-taken, sack-taken}
 use Rattle.delivery.proofs.Invariant.{Told, Inv, not-ahead, invariant}
@@ -55,18 +58,29 @@ taken I n (Nacks k) T R = nack-taken (I .keeps) (n .about) (k .psn) (k .reason) 
 pub never-refused : NeverRefused
 never-refused s w run n m R = let I = invariant run in taken I n (n .reply) (I .told n m) R
 
--- ---- what is answered 17 is a SACK that contradicts itself
-not-contradicted : {s : Start} {w : World} → Inv s w → (x : Sender) (n : Note) (q : Reply) → Told s (among (w .accepted)) (length (w .sent)) n q
-    → contradicted x (hearing q) ≡ false
-unfolding Told hearing contradicted
-not-contradicted I x n (Acks b k) T = rw (T .tells .consistent)
-not-contradicted I x n (Nacks k) T = refl
+-- ---- no reply is answered 17: a SACK does not contradict itself, and nothing else is
+abbrev Not17 : Outcome Answer Sender → Type 0
+Not17 o = paper (answered o) .number ≢ 17
 
-not-seventeen : (x : Sender) (e : Sending) → contradicted x e ≡ false → answered (step x e) ≢ answer.Refused 17
-unfolding paper
-not-seventeen x e h is = false≢true (sym h ∙ sym (seventeen x e) ∙ eq-eqb _ 17 (ap (λ (a : Answer). paper a .number) is))
+either-not : (b : Bool) (o q : Outcome Answer Sender) → Not17 o → Not17 q → Not17 (cond b o q)
+either-not true o q h k = h
+either-not false o q h k = k
+
+heard : {s : Start} {w : World} → Inv s w → (x : Sender) (n : Note) (q : Reply) → Told s (among (w .accepted)) (length (w .sent)) n q
+    → Not17 (step x (hearing q))
+unfolding Told step hearing sack sack-refusals acknowledged report nack nack-refusals nacked mark answered paper Each
+heard I x n (Acks b k) T =
+    through-each Not17 (sack-refusals x (k .cack) (k .block)) _
+    (λ _ e. omega arith, (λ _ e. omega arith, (λ _ e. omega arith, (λ c. absurd (false≢true (sym (T .tells .consistent) ∙ c)), (λ _ e. omega arith, tt)))))
+    (λ e. omega arith)
+heard I x n (Nacks k) T =
+    through-each Not17 (nack-refusals x (k .psn) (k .reason)) _
+    (λ _ e. omega arith, (λ _ e. omega arith, (λ _ e. omega arith, (λ _ e. omega arith, tt))))
+    (either-not (leb (k .reason) 4) _ _
+    (either-not (getD (map markable (x .entries)) (index x (k .psn .0)) false) _ _ (λ e. omega arith) (λ e. omega arith)) (λ e. omega arith))
 
 pub never-contradicts : NeverContradicts
-never-contradicts s w run m there a x given =
+unfolding paper
+never-contradicts s w run m there a x given e =
     let I = invariant run in
-    not-seventeen (w .sending) (hearing (m .reply)) (not-contradicted I (w .sending) m (m .reply) (I .told m there))
+    heard I (w .sending) m (m .reply) (I .told m there) (ap (λ (a : Answer). paper a .number) e)

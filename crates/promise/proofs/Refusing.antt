@@ -26,6 +26,11 @@ Past l zero = Unit {0}
 Past [] (suc i) = Unit {0}
 Past (r ∷ l) (suc i) = (r .0 ≡ false) × Past l i
 
+-- the number of each that passes has a property
+unfoldable pub Each : (ℕ → Type 0) → Refusals → Type 0
+Each P [] = Unit {0}
+Each P (r ∷ l) = (r .0 ≡ true → P (r .1)) × Each P l
+
 -- one more is passed by
 pub past : (l : Refusals) (i : ℕ) → Past l i → test l i ≡ false → Past l (suc i)
 unfolding Past test
@@ -56,6 +61,16 @@ module _ {A S : Type 0} where
       by : (b : Bool) → P (Refused (t .1)) → (b ≡ false → P (unless l o)) → P (cond b (Refused (t .1)) (unless l o))
       by true p q = p
       by false p q = q refl
+
+  -- the same, by the numbers of those tests alone that pass
+  pub through-each : (P : Outcome A S → Type 0) (l : Refusals) (o : Outcome A S) → Each (λ n. P (Refused n)) l → P o → P (unless l o)
+  unfolding Each unless
+  through-each P [] o r h = h
+  through-each P (t ∷ l) o r h = by (t .0) (r .0) (through-each P l o (r .1) h)
+    where
+      by : (b : Bool) → (b ≡ true → P (Refused (t .1))) → P (unless l o) → P (cond b (Refused (t .1)) (unless l o))
+      by true p q = p refl
+      by false p q = q
 
   -- two lists one after the other are one
   pub unless-both : (l m : Refusals) (o : Outcome A S) → unless (l ++ m) o ≡ unless l (unless m o)

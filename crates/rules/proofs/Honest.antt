@@ -32,8 +32,7 @@ receiver-honest r a h =
     all-past (s .expected) o (block s (a .psn .0) .bitmap)
     (λ j l e.
     let here : getD (s .window) (o + j) false ≡ true =
-    sym (getD-drop o (s .window) j false) ∙ sym (getD-take 64 rest j false l) ∙ sym (bit-pack (take 64 rest) j) ∙ e in
-    (
+    sym (getD-drop o (s .window) j false) ∙ sym (getD-take 64 rest j false l) ∙ sym (bit-pack (take 64 rest) j) ∙ e in (
       (elim (ℕ-discrete (o + j) 0) [
         | yes z ↦ absurd (false≢true (sym (K .expected-open) ∙ sym (ap (λ (i : ℕ). getD (s .window) i false) z) ∙ here))
         | no z ↦ omega arith

@@ -11,6 +11,8 @@ pub mod Runs
 pub mod Slots
 pub mod Slips
 pub mod Counts
+pub mod Contradicts
+pub mod Honest
 pub mod EventKinds
 pub mod Cells
 pub mod Records
@@ -21,5 +23,4 @@ pub mod Replays
 pub mod Apart
 pub mod Settled
 pub mod Numbered
-pub mod Contradicts
-pub mod Honest
+pub mod Seventeen
