@@ -279,6 +279,12 @@ impl Sender {
         if cack >= TURN || base >= TURN {
             return Answer::Refused(5);
         }
+        // a set bit that is not 2 or more ahead of cack, and less than half
+        let past = base.wrapping_sub(cack) % TURN;
+        let ahead = if past < HALF { low(HALF - past) & !low(2u32.saturating_sub(past)) } else { !low(TURN - past + 2) };
+        if bitmap & !ahead != 0 {
+            return Answer::Refused(17);
+        }
         let n = self.outstanding;
         let upto = cack.wrapping_sub(self.place) % TURN;
         if n < upto && upto < HALF {

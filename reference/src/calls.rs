@@ -12,9 +12,9 @@
 //!     8 count   a receiver started at PSN a with its count set to b; then an arrival with size c, and flags, entropy and PSN of the fields
 //!     9 lent    the same over lent words
 
-use crate::generate::Chance;
+use crate::generate::{edge, Chance};
 use crate::log::{self, Record, Slot, KINDS, LONGEST, PSN_WIDTH, SLOTS};
-use crate::side::{on, Outcome, Receiver, HALF, TURN, WORDS};
+use crate::side::{contradiction, distance, on, set_bits, Outcome, Receiver, CONTRADICTIONS, HALF, TURN, WORDS};
 use std::collections::BTreeMap;
 
 const TABLE: usize = 20;
@@ -77,6 +77,26 @@ fn judged(outcome: &Outcome) -> String {
     match outcome {
         Err(number) => format!("refused {number}"),
         Ok(done) => format!("arrival {} with {}", done.values[0], done.unprinted[0]),
+    }
+}
+
+/// The one set bit of a SACK that is judged, by its distance from cack: on either side of each edge.
+const EDGES: [(u32, &str); 6] = [(TURN - 1, "cack - 1"), (0, "cack"), (1, "cack + 1"), (2, "cack + 2"), (HALF - 1, "cack + half - 1"), (HALF, "cack + half")];
+
+/// What a SACK's bits were judged, where it came to a sender at a place with so many outstanding.
+fn judged_bits(stood: Option<(u32, u32)>, fields: &[u64], outcome: &Outcome, seen: &mut Seen) {
+    let (Some((place, outstanding)), false) = (stood, matches!(outcome, Err(1 | 2 | 5))) else {
+        return;
+    };
+    let (cack, base, bitmap) = (fields[0] as u32, fields[1] as u32, fields[2]);
+    let refused = *outcome == Err(17);
+    for way in contradiction(place, outstanding, cack, base).into_iter().filter(|_| refused) {
+        saw(seen, CONTRADICTIONS[way].into());
+    }
+    if let [psn] = set_bits(base, bitmap).collect::<Vec<u32>>()[..] {
+        for (_, name) in EDGES.iter().filter(|(by, _)| distance(cack, psn) == *by) {
+            saw(seen, format!("one bit, for {name}: {}", if refused { "17" } else { "not 17" }));
+        }
     }
 }
 
@@ -182,7 +202,11 @@ impl Library {
 
     fn event(&mut self, lent: usize, slot: u64, (kind, fields): (usize, Vec<u64>), seen: &mut Seen) -> Option<Vec<u64>> {
         let table = self.slots.get_mut(..lent)?;
+        let stood = table.get(slot as usize).and_then(|slot| slot.as_ref()).map(|(sender, _)| (sender.place, sender.outstanding()));
         let outcome = log::event(table, slot as usize, kind, &fields);
+        if kind == 5 {
+            judged_bits(stood, &fields, &outcome, seen);
+        }
         let past = matches!(outcome, Err(1));
         saw(seen, format!("event on slot {} {}", slot_class(slot), if past { "refused 1" } else { "let in" }));
         saw(seen, format!("event with {} slots {}", lent_class(lent), if past { "refused 1" } else { "let in" }));
@@ -330,7 +354,7 @@ pub fn reachable() -> Vec<String> {
         add(what.into());
     }
     // the order of document 01's refusals, kind by kind
-    let refusals: [&[u8]; 8] = [&[1, 3, 4, 5], &[1, 2], &[1, 2, 6, 7], &[1, 2, 5, 6, 14], &[1, 2, 5, 8], &[1, 2, 5, 15, 8], &[1, 2, 5, 8], &[1, 2, 9]];
+    let refusals: [&[u8]; 8] = [&[1, 3, 4, 5], &[1, 2], &[1, 2, 6, 7], &[1, 2, 5, 6, 14], &[1, 2, 5, 17, 8], &[1, 2, 5, 15, 8], &[1, 2, 5, 8], &[1, 2, 9]];
     // each arrival answer, with the MPR or the reason beside it
     let judgements = ["arrival 0 with 0", "arrival 1 with 0", "arrival 2 with 3", "arrival 3 with 4", "arrival 4 with 1", "arrival 5 with 2"];
     for (kind, numbers) in KINDS.iter().zip(refusals) {
@@ -348,6 +372,10 @@ pub fn reachable() -> Vec<String> {
             add(format!("write a {name} refused 5"));
             add(format!("write a {name} refused 5 before 16"));
         }
+    }
+    CONTRADICTIONS.iter().for_each(|way| add(way.to_string()));
+    for (i, (_, name)) in EDGES.iter().enumerate() {
+        add(format!("one bit, for {name}: {}", if [3, 4].contains(&i) { "not 17" } else { "17" }));
     }
     for what in ["a record 0", "a record inside", "at the end", "past the end", "the largest", "refused 10 before the kind", "refused 10 in a record"] {
         add(format!("read {what}"));
@@ -490,12 +518,19 @@ fn some_fields(chance: &mut Chance, kind: u64, slot: &Slot, first: u32) -> Vec<u
         3 => vec![some_size(chance)],
         4 => vec![near(chance, expected, room), some_size(chance), some_flags(chance), entropy],
         5 if chance.one_in(2) && outstanding > 0 => {
-            // an honest one: a cack and bits of packets that are outstanding
+            // a cack and bits of packets that are outstanding; an honest one has its bits past cack + 1
             let by = chance.below(u64::from(outstanding) + 1) as u32;
-            let base = on(sent, chance.below(outstanding.into()) as u32);
-            let left = outstanding - crate::side::distance(sent, base);
+            let honest = !chance.one_in(4);
+            let from = if honest { by.min(outstanding - 1) } else { 0 };
+            let base = on(sent, from + chance.below((outstanding - from).into()) as u32);
+            let left = outstanding - distance(sent, base);
             let mask = if left >= 64 { u64::MAX } else { (1 << left) - 1 };
-            vec![on(sent, by + TURN - 1).into(), base.into(), chance.next() & mask]
+            let next = if honest && distance(sent, base) <= by { 1 } else { 0 };
+            vec![on(sent, by + TURN - 1).into(), base.into(), chance.next() & mask & !next]
+        }
+        5 if chance.one_in(2) => {
+            let cack = near(chance, on(sent, TURN - 1), outstanding.max(1));
+            edge(chance, cack as u32 % TURN)
         }
         5 => vec![near(chance, on(sent, TURN - 1), outstanding.max(1)), near(chance, sent, outstanding.max(1)), some_bitmap(chance)],
         6 | 7 => {

@@ -2,7 +2,7 @@
 //! refused, damaged, cut and random bytes, and the lengths at the edges.
 
 use crate::log::{Card, Record, LONGEST};
-use crate::side::{on, TURN};
+use crate::side::{on, HALF, TURN};
 
 /// A small generator of numbers (splitmix64).
 pub struct Chance(u64);
@@ -75,7 +75,24 @@ fn weather(chance: &mut Chance) -> Weather {
     }
 }
 
-/// One connection sends to another's receiving side; replies may be late, lost or heard again.
+/// A SACK with one set bit, anywhere in its block and on either side of each edge: cack - 1, cack and cack + 1, and cack + 2; half from cack, and one
+/// less.
+pub fn edge(chance: &mut Chance, cack: u32) -> Vec<u64> {
+    let bit = chance.below(64) as u32;
+    let psn = on(cack, chance.pick(&[TURN - 1, 0, 1, 2, HALF - 1, HALF]));
+    vec![cack.into(), on(psn, TURN - bit).into(), 1 << bit]
+}
+
+/// An honest SACK, mostly; seldom one that looks like it, with the bit for cack + 1, or one at an edge.
+fn seldom_twisted(chance: &mut Chance, fields: &[u64]) -> Vec<u64> {
+    match (chance.below(24), fields[0] as u32, fields[1] as u32) {
+        (0, cack, base) if base == on(cack, 1) => vec![fields[0], fields[1], fields[2] | 1],
+        (1, cack, _) => edge(chance, cack),
+        _ => fields.to_vec(),
+    }
+}
+
+/// One connection sends to another's receiving side; replies may be late, lost, heard again or, of a SACK, twisted.
 pub fn traffic(chance: &mut Chance, room: u64, first: u32, events: usize) -> Vec<u8> {
     let weather = weather(chance);
     let mut script = Script::new(LONGEST);
@@ -134,6 +151,7 @@ pub fn traffic(chance: &mut Chance, room: u64, first: u32, events: usize) -> Vec
                     replies.remove(at);
                 }
                 if !chance.one_in(weather.loss) {
+                    let fields = if kind == 5 { seldom_twisted(chance, &fields) } else { fields };
                     script.event(kind, near, &fields);
                 }
             }
@@ -158,14 +176,14 @@ pub fn traffic(chance: &mut Chance, room: u64, first: u32, events: usize) -> Vec
 /// Events whose fields are drawn from the edges of what is allowed, so that every refusal comes up.
 pub fn edges(chance: &mut Chance, events: usize) -> Vec<u8> {
     let mut script = Script::new(LONGEST);
-    let first = chance.pick(&[0, 10, 1000, HALF_EDGE, TURN - 2, TURN - 1]);
+    let first = chance.pick(&[0, 10, 1000, HALF, TURN - 2, TURN - 1]);
     for _ in 0..events {
         if script.full() {
             break;
         }
         let slot = chance.pick(&[0, 0, 0, 1, 2, 15, 16, 255]);
-        let near = on(first, chance.pick(&[0, 1, 2, 3, 62, 63, 64, 65, 511, 512, 513, TURN - 1, TURN - 2, HALF_EDGE - 1, HALF_EDGE, HALF_EDGE + 1]));
-        let also = on(first, chance.pick(&[0, 1, 4, 63, 64, TURN - 1, TURN - 64, HALF_EDGE, HALF_EDGE - 65]));
+        let near = on(first, chance.pick(&[0, 1, 2, 3, 62, 63, 64, 65, 511, 512, 513, TURN - 1, TURN - 2, HALF - 1, HALF, HALF + 1]));
+        let also = on(first, chance.pick(&[0, 1, 4, 63, 64, TURN - 1, TURN - 64, HALF, HALF - 65]));
         let size = chance.pick(&[0, 47, 48, 100, 100, 100, 9216, 9217, 65535]);
         let room = chance.pick(&[0, 63, 64, 64, 64, 65, 128, 512, 512, 513, 576, 2048, 65535]);
         let other = chance.pick(&[64, 64, 128, 512, 100]);
@@ -177,9 +195,11 @@ pub fn edges(chance: &mut Chance, events: usize) -> Vec<u8> {
                 let flags = if chance.one_in(2) { chance.below(256) } else { chance.pick(&[0, 1, 2, 16]) };
                 script.event(4, slot, &[near.into(), size, flags, chance.below(1 << 32)])
             }
+            5 if chance.one_in(3) => script.event(5, slot, &edge(chance, near)),
             5 => {
+                let base = if chance.one_in(2) { on(near, 1) } else { also };
                 let bitmap = chance.pick(&[0, 1, 2, 10, 1 << 63, u64::MAX]) & if chance.one_in(2) { u64::MAX } else { 15 };
-                script.event(5, slot, &[near.into(), also.into(), bitmap])
+                script.event(5, slot, &[near.into(), base.into(), bitmap])
             }
             6 => script.event(6, slot, &[near.into(), chance.below(9)]),
             7 => script.event(7, slot, &[near.into()]),
@@ -236,15 +256,13 @@ pub fn gaps(chance: &mut Chance, room: u64, first: u32) -> Vec<u8> {
     script.bytes
 }
 
-const HALF_EDGE: u32 = TURN / 2;
-
 /// One record of each kind.
 pub fn each_kind() -> Vec<u8> {
     let mut script = Script::new(LONGEST);
     script.event(1, 0, &[64, 10, 64, 10]);
     script.event(3, 0, &[100]);
     script.event(4, 0, &[10, 100, 0, 7]);
-    script.event(5, 0, &[9, 10, 1]);
+    script.event(5, 0, &[10, 11, 0]);
     script.event(6, 0, &[10, 1]);
     script.event(7, 0, &[10]);
     script.event(8, 0, &[]);
@@ -263,7 +281,7 @@ fn some_room(chance: &mut Chance) -> u64 {
 fn some_first(chance: &mut Chance) -> u32 {
     match chance.below(3) {
         0 => on(TURN, TURN - chance.below(40) as u32),
-        1 => on(HALF_EDGE, TURN - chance.below(40) as u32),
+        1 => on(HALF, TURN - chance.below(40) as u32),
         _ => chance.below(TURN.into()) as u32,
     }
 }

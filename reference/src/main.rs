@@ -143,7 +143,7 @@ const REACHABLE: &[(usize, &[u64])] = &[
     (2, &[0, 1, 2]),
     (3, &[0, 1, 2, 6, 7]),
     (4, &[100, 101, 102, 103, 104, 105, 1, 2, 6, 14]),
-    (5, &[0, 1, 2, 8]),
+    (5, &[0, 1, 2, 17, 8]),
     (6, &[0, 1, 2, 8, 15]),
     (7, &[0, 1, 2, 8]),
     (8, &[0, 1, 2, 9]),
@@ -156,22 +156,29 @@ const BUFFER: usize = 65_536;
 const LONG: (usize, u64) = (usize::MAX, 0);
 const STRIDE: usize = usize::MAX - 1;
 const COUNTED: (usize, u64) = (usize::MAX - 2, 4);
+const CONTRADICTS: usize = usize::MAX - 3;
 
 /// What must be met at least once for so many logs: a text longer than two of the program's buffers, which it writes when they are full; a move
-/// over more than a word, of E by an arrival and of the place by a SACK; and a repeat that is seen to be counted.
+/// over more than a word, of E by an arrival and of the place by a SACK; a repeat that is seen to be counted; and a SACK that contradicts itself
+/// in each of the ways of `side::contradiction`.
 const ONE_IN: u64 = 200;
-const RARE: [((usize, u64), &str); 4] = [
+const RARE: [((usize, u64), &str); 9] = [
     (LONG, "texts of more than two buffers"),
     ((STRIDE, 4), "arrivals that move E by more than 64"),
     ((STRIDE, 5), "SACKs that move the place by more than 64"),
     (COUNTED, "known arrivals that raise count / 256"),
+    ((CONTRADICTS, 0), side::CONTRADICTIONS[0]),
+    ((CONTRADICTS, 1), side::CONTRADICTIONS[1]),
+    ((CONTRADICTS, 2), side::CONTRADICTIONS[2]),
+    ((CONTRADICTS, 3), side::CONTRADICTIONS[3]),
+    ((CONTRADICTS, 4), side::CONTRADICTIONS[4]),
 ];
 
 /// Has the command replay log i of a seed, which must make its records again from its own words.
 fn compare_one(i: usize, seed: u64, command: &[String], seen: &mut Seen) {
     let log = generate::log(seed, i);
-    // by slot and kind, where E and the place stand: one behind; and by slot the count / 256 of the last SACK
-    let (mut ends, mut counts) = (BTreeMap::new(), BTreeMap::new());
+    // by slot and kind, where E and the place stand: one behind; and by slot the count / 256 of the last SACK, and the last PSN sent
+    let (mut ends, mut counts, mut sent) = (BTreeMap::new(), BTreeMap::new(), BTreeMap::new());
     let last = log::replay(&log, |record, outcome| {
         let answer = match outcome {
             Err(number) => u64::from(*number),
@@ -185,6 +192,16 @@ fn compare_one(i: usize, seed: u64, command: &[String], seen: &mut Seen) {
                 ends.insert((record.slot, 4), (record.fields[3] + turn - 1) % turn);
                 ends.insert((record.slot, 5), (record.fields[1] + turn - 1) % turn);
                 counts.insert(record.slot, 0);
+                sent.insert(record.slot, (record.fields[1] + turn - 1) % turn);
+            }
+            (3, Ok(done)) => {
+                sent.insert(record.slot, done.values[0]);
+            }
+            (5, Err(17)) => {
+                let [place, last] = [ends[&(record.slot, 5)], sent[&record.slot]].map(|psn| psn as u32);
+                for way in side::contradiction(place, side::distance(place, last), record.fields[0] as u32, record.fields[1] as u32) {
+                    *seen.entry((CONTRADICTS, way as u64)).or_default() += 1;
+                }
             }
             (4, Ok(done)) if done.values[0] > 1 => {}
             (kind @ (4 | 5), Ok(done)) => {

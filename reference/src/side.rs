@@ -1,4 +1,5 @@
-//! The two sides of a connection, from document 01 with request No. 4 of document 02: packet numbers are kept in ordered maps and sets, one entry each.
+//! The two sides of a connection, from document 01 with requests No. 3 and 4 of document 02: packet numbers are kept in ordered maps and sets, one
+//! entry each.
 
 use std::collections::{BTreeMap, BTreeSet};
 
@@ -13,6 +14,29 @@ pub fn distance(from: u32, to: u32) -> u32 {
 /// The packet number `by` places on.
 pub fn on(from: u32, by: u32) -> u32 {
     from.wrapping_add(by) & (TURN - 1)
+}
+
+/// The packet numbers of a block's set bits.
+pub fn set_bits(base: u32, bitmap: u64) -> impl Iterator<Item = u32> {
+    (0..64).filter(move |bit| bitmap >> bit & 1 == 1).map(move |bit| on(base, bit))
+}
+
+/// The ways in which a SACK that contradicts itself comes: it looks honest, or its block is another's; and it is late, finds nothing outstanding, or
+/// its cack is unsent too.
+pub const CONTRADICTIONS: [&str; 5] = [
+    "17 for cack + 1 in a block that begins there",
+    "17 for another block",
+    "17 for a late SACK",
+    "17 with nothing outstanding",
+    "17 for an unsent cack",
+];
+
+/// In which of these ways one came to a sender at this place.
+pub fn contradiction(place: u32, outstanding: u32, cack: u32, base: u32) -> Vec<usize> {
+    let far = distance(place, cack);
+    let looks_honest = base == on(cack, 1);
+    let ways = [looks_honest, !looks_honest, far >= HALF, outstanding == 0, far > outstanding && far < HALF];
+    (0..ways.len()).filter(|&i| ways[i]).collect()
 }
 
 pub fn room_allowed(room: u16) -> bool {
@@ -197,6 +221,10 @@ impl Sender {
     }
 
     pub fn sack(&mut self, cack: u32, base: u32, bitmap: u64) -> Outcome {
+        // No. 3: no bit for cack + 1, none for cack, none behind it
+        if set_bits(base, bitmap).any(|psn| psn == on(cack, 1) || psn == cack || distance(cack, psn) >= HALF) {
+            return Err(17);
+        }
         let far = distance(self.place, cack);
         if far > self.outstanding() && far < HALF {
             return Err(8);
@@ -205,8 +233,8 @@ impl Sender {
         if far <= self.outstanding() {
             named.extend(self.retired_to + 1..=self.retired_to + u64::from(far));
         }
-        for bit in (0..64).filter(|bit| bitmap >> bit & 1 == 1) {
-            named.extend(self.find(on(base, bit))?);
+        for psn in set_bits(base, bitmap) {
+            named.extend(self.find(psn)?);
         }
         let mut newly = 0;
         for packet in named {
