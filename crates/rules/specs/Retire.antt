@@ -13,11 +13,11 @@ use Rattle.rules.specs.declared.Block.{Block}
 use Rattle.rules.specs.declared.Answer.{Answer}
 use Rattle.rules.specs.declared.Answer.the-variants as answer
 
--- ---- whether a SACK contradicts itself (02, No. 3)
 -- has a block a set bit whose PSN passes
 unfoldable pub any-set : (ℕ → Bool) → Block → Bool
 any-set f b = any 64 (λ j. bit-at (b .bitmap) j && f (after (b .base .0) j))
 
+-- ---- whether a SACK contradicts itself (02, No. 3)
 -- a PSN that "is cack + 1, or is cack or behind it": cack + 1 is at distance 1 from cack, and cack at distance 0
 unfoldable pub at-odds : ℕ → ℕ → Bool
 at-odds cack p = leb (distance cack p) 1 || behind cack p
@@ -32,9 +32,6 @@ contradicts cack b = any-set (at-odds cack) b
 unfoldable pub unsent-cack : Sender → ℕ → Bool
 unsent-cack x cack = ltb (outstanding x) (distance (x .place) cack) && not (behind (x .place) cack)
 
-unfoldable pub up-to : Sender → ℕ → ℕ
-up-to x cack = let d = distance (x .place) cack in cond (leb d (outstanding x)) d 0
-
 -- "Each set bit retires its PSN if outstanding, is ignored if behind place + 1 .., otherwise names unsent"
 unfoldable pub unsent-bit : Sender → Block → Bool
 unsent-bit x b = any-set (unsent x) b
@@ -43,6 +40,10 @@ unfoldable pub names-unsent : Sender → ℕ → Block → Bool
 names-unsent x cack b = unsent-cack x cack || unsent-bit x b
 
 -- ---- what it retires
+-- "all to cack": so many from place + 1 on, and none where cack is behind the place
+unfoldable pub up-to : Sender → ℕ → ℕ
+up-to x cack = let d = distance (x .place) cack in cond (leb d (outstanding x)) d 0
+
 -- a set bit names a PSN. "A clear bit says nothing"
 unfoldable pub has-bit : Block → ℕ → Bool
 has-bit b p = let d = distance (b .base .0) p in ltb d 64 && bit-at (b .bitmap) d
