@@ -1,4 +1,4 @@
-// What a SACK names, and what it does to lent rows of words: bit p of a row is the packet number p after the row's first.
+// What a SACK says, and what it does to lent rows of words: bit p of a row is the packet number p after the row's first.
 ghost use mathlib.Core.Path.{_≡_};
 ghost use Prim.Native.Nat.{_+_, _*_, _%_, _≤_, _<_};
 ghost use lib.ListN.{length};
