@@ -183,26 +183,29 @@ module _ {M : Type 1} (𝓤 : URA M) (H : Heap 𝓤) (A : Atoms 𝓤) (W : Given
     walk : ent 𝓤 (onEntry 𝓤 H A event′.signature (κ, tt) (q, tt) a vals) (WpFn 𝓤 H C Λ code.function (s ∷ vint w64 n ∷ ev ∷ []) Post)
     walk =
         qed W ((‵ (flft κ q) ⊛ ‵ ftrue) ∷ ‵ Params ∷ []) ∵ enter ! C Λ code.function (s ∷ vint w64 n ∷ ev ∷ []) _ $
-        -- the locals _0 to _9, and the arguments in _1, _2 and _3
+        -- the locals _0 to _9, and the arguments in _1, _2 and _3. Where a cell holds an event, an answer or a record, its type, block and value
+        -- are named, and not found by comparing
         alloc1 ! (λ l₀. alloc1 ! (λ l₁. alloc1 ! (λ l₂. alloc1 ! (λ l₃. alloc1 ! (λ l₄.
         alloc1 ! (λ l₅. alloc1 ! (λ l₆. alloc1 ! (λ l₇. alloc1 ! (λ l₈. alloc1 ! (λ l₉. alloc0 ! $ params1 ! $
         pass1 ! (init ! 16 refl (tt, (tt, (record { fits = room .0 }, tt)))) $
         pass1 ! (init ! 14 refl (tt, record { fits = n-fits })) $
-        pass1 ! (init ! 12 refl (EL.lawful E₀.the-type E′.the-laws 𝓤 H A W tt .typed e _ is-e .0)) $ pass0 ! $
+        pass1 ! (init ! 12 {τ = E′.mir} {b = l₃} {o = 0} {v = ev} refl (EL.lawful E₀.the-type E′.the-laws 𝓤 H A W tt .typed e _ is-e .0)) $ pass0 ! $
         -- [_9; …; _8; …; .. ; _1; …; room for _0; …; the token; what the parameters own]: local i stands at 18 - 2 i
         -- the slot is held to 16
         sets ! (bin ! (lit ! tt) (var ! 14 refl) tt) (init ! 8 refl (tt, tt)) $
         turns-back ! (var ! 8 refl)
-        (λ big. sets ! (agg ! (and-then ! (lit ! tt) (and-then ! (lit ! tt) (no-more !)))) (init ! 18 refl (answer-typed W (Refused 1) _ is-refused)) $
-        returns-within ! Post refl (look ! 18 refl) $
+        (λ big. sets ! (agg ! (and-then ! (lit ! tt) (and-then ! (lit ! tt) (no-more !))))
+        (init ! 18 {τ = A′.mir} {b = l₀} {o = 0} {v = answer-val (Refused 1)} refl (answer-typed W (Refused 1) _ is-refused)) $
+        returns-within ! Post refl (look ! 18 {τ = A′.mir} {b = l₀} {o = 0} {v = answer-val (Refused 1)} refl) $
         frees-all ! 0 (full _ ∷ full _ ∷ full _ ∷ full _ ∷ bare ∷ full _ ∷ []) refl $
         by ! (refuses (past-sixteen ys n e all (leb→le 16 n big))))
         -- and to the list's length
         (λ not-big. sets ! (of-opd ! (part ! 16 refl refl refl)) (init ! 6 refl (tt, record { fits = room .0 })) $
         sets ! (bin ! (var ! 6 refl) (var ! 14 refl) tt) (store ! 8 refl (tt, tt)) $
         turns-back ! (var ! 8 refl)
-        (λ far. sets ! (agg ! (and-then ! (lit ! tt) (and-then ! (lit ! tt) (no-more !)))) (init ! 18 refl (answer-typed W (Refused 1) _ is-refused)) $
-        returns-within ! Post refl (look ! 18 refl) $
+        (λ far. sets ! (agg ! (and-then ! (lit ! tt) (and-then ! (lit ! tt) (no-more !))))
+        (init ! 18 {τ = A′.mir} {b = l₀} {o = 0} {v = answer-val (Refused 1)} refl (answer-typed W (Refused 1) _ is-refused)) $
+        returns-within ! Post refl (look ! 18 {τ = A′.mir} {b = l₀} {o = 0} {v = answer-val (Refused 1)} refl) $
         frees-all ! 0 (full _ ∷ full _ ∷ full _ ∷ full _ ∷ bare ∷ full _ ∷ full _ ∷ []) refl $
         by ! (refuses (past-end ys n e all (leb→le (length ys) n far))))
         (λ not-far. let small : n < 16 = nleb→lt 16 n not-big in let within : n < length ys = nleb→lt (length ys) n not-far in
@@ -217,18 +220,20 @@ module _ {M : Type 1} (𝓤 : URA M) (H : Heap 𝓤) (A : Atoms 𝓤) (W : Given
         elem-out ! R (Is R) (shows 𝓤 H A R) (LL.vals C₀.the-type C′.the-laws) (LL.tells C₀.the-type C′.the-laws) fullShare ys n empty b o within (λ was.
         -- [the element's cell; what it owns; the others; the open borrow; obs; auth; true; the slice's fact; what slot and e own; _9; …;
         -- room for _0; …]: local i stands at 27 - 2 i
-        sets ! (of-opd ! (load ! (from ! (hop ! (look ! 13 refl) (stop !))) (look-raw ! 0 refl))) (init ! 11 refl (conn-typed W c _ was)) $
+        sets ! (of-opd ! (load ! (from ! (hop ! (look ! 13 refl) (stop !))) (look-raw ! 0 refl)))
+        (init ! 11 {τ = C′.mir} {b = l₈} {o = 0} {v = conn-val c} refl (conn-typed W c _ was)) $
         -- the call
         use0 W (raw (Step 𝓤 H A mem run .pre (to-step 𝓤 H A W mem run c e ev))) (goes-step 𝓤 H A W mem run c e ev (all n) was is-e) $
         calls-at ! fm (Step 𝓤 H A mem run) known (to-step 𝓤 H A W mem run c e ev)
-        (and-then ! (var ! 12 refl) (and-then ! (var ! 22 refl) (no-more !))) (λ v.
+        (and-then ! (load ! (from ! (stop !)) (look ! 12 {q = fullShare} {τ = C′.mir} {b = l₈} {o = 0} {v = conn-val c} refl))
+        (and-then ! (load ! (from ! (stop !)) (look ! 22 {q = fullShare} {τ = E′.mir} {b = l₃} {o = 0} {v = ev} refl)) (no-more !))) (λ v.
         -- what it gives: a record r with the value v, of which the contract of `in_slot` holds
         use1 W (later (some (λ (r : Stepped). (‵ ftrue ⊛ ‵ (S₀.the-row .own r (v ∷ [])))
         ⊛ raw (ensured 𝓤 H A step′.ended (step′.clauses 𝓤 H A mem run) tt (c, (e, tt)) tt r)))) (id⊢ 𝓤 _) $
         await ! tt $ pick ! (λ r. split ! $ move ! (1 ∷ []) $
         use1 W (raw (fact 𝓤 (Stepping c e r))) (stepped-of 𝓤 H A W mem run c e ev r) $ heard ! (Stepping c e r) (λ is. split ! $ drop ! $
         peeks ! S₀.the-row (Is S₀.the-row) (shows 𝓤 H A S₀.the-row) r (v ∷ []) (λ is-r.
-        land ! (from ! (stop !)) (init ! 20 refl (LL.lawful S₀.the-type S′.the-laws 𝓤 H A W .typed r _ is-r .0)) $ drop ! $
+        land ! (from ! (stop !)) (init ! 20 {τ = S′.mir} {b = l₄} {o = 0} {v = v} refl (LL.lawful S₀.the-type S′.the-laws 𝓤 H A W .typed r _ is-r .0)) $ drop ! $
         rewrite ! 19 (λ (u : Val). ‵ (fat fullShare S′.mir l₄ 0 u)) (ap only (LL.tells S₀.the-type S′.the-laws r (v ∷ []) is-r)) refl $
         let owed = LL.owed S₀.the-type S′.the-laws r (v ∷ []) is-r in
         -- the element's place again
@@ -238,7 +243,8 @@ module _ {M : Type 1} (𝓤 : URA M) (H : Heap 𝓤) (A : Atoms 𝓤) (W : Given
         -- the record is stored there, and the answer in _0
         assigns ! (of-opd ! (part ! 19 {τs = parts} refl refl {τ = C′.mir} {d = record-at} refl)) (from ! (hop ! (look ! 9 refl) (stop !)))
         (store-raw ! 0 refl (conn-typed W (r .«record») _ (owed .1 .0))) $
-        sets ! (of-opd ! (part ! 19 {τs = parts} refl refl {τ = A′.mir} {d = 0} refl)) (init ! 27 refl (answer-typed W (r .answer) _ (owed .0))) $
+        sets ! (of-opd ! (part ! 19 {τs = parts} refl refl {τ = A′.mir} {d = 0} refl))
+        (init ! 27 {τ = A′.mir} {b = l₀} {o = 0} {v = answer-val (r .answer)} refl (answer-typed W (r .answer) _ (owed .0))) $
         -- the element is put back, and the borrow shut
         move ! (1 ∷ []) $ drop ! $ conn-owned ! (r .«record») (owed .1 .0) $ move ! (1 ∷ 0 ∷ []) $
         elem-put ! R fullShare ys n (r .«record») (conn-val (r .«record») ∷ []) b o within $
