@@ -126,11 +126,12 @@ pub struct Retired {
 fn one(retired: u64, marked: u64, named: u64) -> Retired
     ensures { λ r. ⌜ OneRetired retired marked named r ⌝ }
 {
+    let fresh = word::without(named, retired);
     Retired {
         retired: retired | named,
         marked: word::without(marked, named),
-        fresh: word::without(named, retired),
-        newly: word::newly(named, retired),
+        fresh,
+        newly: word::ones(fresh),
     }
 }
 

@@ -69,9 +69,9 @@ pub fn lowest(w: u64) -> u32
     u64::trailing_zeros(w)
 }
 
-// How many bits of v are set that are clear in w.
-pub fn newly(v: u64, w: u64) -> u32
-    ensures { λ r. ⌜ r ≡ tally 64 (only-in v w) ⌝ }
+// How many bits are set.
+pub fn ones(w: u64) -> u32
+    ensures { λ r. ⌜ r ≡ tally 64 (bit-at w) ⌝ }
 {
-    u64::count_ones(v & !w)
+    u64::count_ones(w)
 }

@@ -1,4 +1,6 @@
 -- `one` meets its contract: each of its parts does to every bit what the contract says. Assumes nothing.
+use mathlib.Core.Path.{_∙_}
+use Rattle.lists.proofs.Index.{weigh-same}
 use Rattle.word.proofs.Bits.{bit-or}
 use borrow.Author.Needs.{needs}
 use Rattle.retire.proofs.one.Statement.{statement}
@@ -10,18 +12,19 @@ without-requires c κs = search needs
 without-requires-2 : tie.Need-without-requires-2
 without-requires-2 c κs = search needs
 
-newly-requires : tie.Need-newly-requires
-newly-requires c κs = search needs
+ones-requires : tie.Need-ones-requires
+ones-requires c κs = search needs
 
 returns : tie.Need-returns
 returns c =
-    let entry = c .before .before .before in
+    let a = c .before .before .before .args in
+    let fresh = c .before .before .without .ensures in
     record {
-      retired-are = λ i h. bit-or (entry .args .retired) (entry .args .named) i;
-      marked-are = c .before .before .without .ensures;
-      fresh-are = c .before .without2 .ensures;
-      counted = c .newly .ensures;
+      retired-are = λ i h. bit-or (a .retired) (a .named) i;
+      marked-are = c .before .without2 .ensures;
+      fresh-are = fresh;
+      counted = c .ones .ensures ∙ weigh-same 64 _ _ _ fresh;
     }
 
 pub one-spec : {M : Type 1} → statement M
-one-spec = tie.close (tie.spec without-requires without-requires-2 newly-requires returns)
+one-spec = tie.close (tie.spec without-requires without-requires-2 ones-requires returns)
