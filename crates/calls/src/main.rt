@@ -228,11 +228,7 @@ fn kind_of(answer: Answer) -> u64 {
         Answer::Sent(_) => 3,
         Answer::Acked(_, _) => 4,
         Answer::Nacked(_, _) => 4,
-        Answer::Retired {
-            newly: _,
-            place: _,
-            held: _,
-        } => 5,
+        Answer::Retired(_) => 5,
         Answer::Marked(_) => 6,
         Answer::Expired(_) => 7,
         Answer::Resent(_) => 8,

@@ -20,6 +20,7 @@ use Rattle.rules.specs.Retire.{is-retired, retire, named, up-to, any-set, unsen
 use Rattle.rules.specs.Marks.{markable, mark, nacked}
 use Rattle.rules.specs.Sending.{sack-refusals, sack, nack-refusals, nack}
 use Rattle.rules.specs.declared.Answer.{Answer}
+use Rattle.rules.specs.declared.Answer.the-variants as answer
 use Rattle.rules.specs.declared.Sack.{Sack}
 use Rattle.delivery.specs.Network.{Start}
 use Rattle.delivery.specs.Wire.{Near, base-number}
@@ -108,7 +109,7 @@ module _ {s : Start} {A : ℕ → Bool} {n : ℕ} {x : Sender} {low : ℕ} (K : 
       unfolding names-unsent unsent-bit any-set
       all-sent = rw cack-sent (any-none 64 _ (λ j h. not-both (bit-at (k .block .bitmap) j) _ (bit-sent j h)))
 
-      pub sack-taken : sack x (k .cack) (k .block) ≡ Done (after-sack x (k .cack .0) (k .block)) (report x (k .cack .0) (k .block))
+      pub sack-taken : sack x (k .cack) (k .block) ≡ Done (after-sack x (k .cack .0) (k .block)) (answer.Retired (report x (k .cack .0) (k .block)))
       unfolding sack sack-refusals unless acknowledged
       sack-taken = rw (sender-used K, psn-good (k .cack .0) (s .first) _ cack-at, psn-good (k .block .base .0) (s .first) _ (T .base-is), T .consistent, all-sent)
 

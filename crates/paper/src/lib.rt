@@ -5,6 +5,7 @@ ghost use Rattle.rules.specs.Paper.{code as code-of, digit as digit-of};
 ghost use Rattle.paper.specs.Shown.{filled, shown};
 use rules::Answer;
 use rules::Nack;
+use rules::Report;
 use rules::Sack;
 use rules::Verdict;
 
@@ -104,6 +105,26 @@ fn nacked(v: Verdict, k: Nack) -> Shown
     }
 }
 
+// The line of a SACK.
+fn retired(k: Report) -> Shown
+    ensures { λ r. ⌜ r ≡ shown (Answer.Retired k) ⌝ }
+{
+    Shown {
+        number: 0,
+        many: 3,
+        values: [
+            k.newly as u64,
+            k.place.0 as u64,
+            k.held as u64,
+            0,
+            0,
+            0,
+            0,
+            0,
+        ],
+    }
+}
+
 // What an answer's line shows.
 pub fn line_of(answer: Answer) -> Shown
     ensures { λ r. ⌜ r ≡ shown answer ⌝ }
@@ -115,11 +136,7 @@ pub fn line_of(answer: Answer) -> Shown
         Answer::Sent(p) => one(p.0 as u64),
         Answer::Acked(v, k) => acked(v, k),
         Answer::Nacked(v, k) => nacked(v, k),
-        Answer::Retired { newly, place, held } => Shown {
-            number: 0,
-            many: 3,
-            values: [newly as u64, place.0 as u64, held as u64, 0, 0, 0, 0, 0],
-        },
+        Answer::Retired(k) => retired(k),
         Answer::Marked(n) => one(n as u64),
         Answer::Expired(n) => one(n as u64),
         Answer::Resent(p) => one(p.0 as u64),

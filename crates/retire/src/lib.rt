@@ -213,9 +213,10 @@ pub fn acknowledge(
     let t = row::run(retired, s + n);
     row::shed(retired, (t / 64) as usize);
     row::shed(marked, (t / 64) as usize);
+    let by = t - s;
     Moved {
         newly: out.newly,
         bytes: out.bytes,
-        by: t - s,
+        by,
     }
 }

@@ -71,7 +71,7 @@ answer-of l =
     ∷ answer.Closed
     ∷ answer.Sent (psn (n 0))
     ∷ cond (eqb (length (l .values)) 8) (acked l) (nacked l)
-    ∷ answer.Retired (n 0) (psn (n 1)) (n 2)
+    ∷ answer.Retired (record { newly = n 0; place = psn (n 1); held = n 2 })
     ∷ answer.Marked (n 0)
     ∷ answer.Expired (n 0)
     ∷ answer.Resent (psn (n 0))
@@ -99,7 +99,7 @@ answer-back (answer.Acked v k) =
 answer-back (answer.Nacked v k) =
     let rtx = digit-back (k .rtx) in
     λ i. answer.Nacked (verdict-back v i) (record { psn = k .psn; reason = k .reason; entropy = k .entropy; rtx = rtx i })
-answer-back (answer.Retired n p h) = refl
+answer-back (answer.Retired k) = refl
 answer-back (answer.Marked n) = refl
 answer-back (answer.Expired n) = refl
 answer-back (answer.Resent p) = refl

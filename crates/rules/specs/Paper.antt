@@ -1,6 +1,6 @@
 -- What an answer is on paper: this document's number, and the values beside it, for each case of each answer.
 use mathlib.Core.Bool.{Bool, cond}
-use mathlib.Core.List.{List, [], _∷_}
+use mathlib.Core.List.{[], _∷_}
 use Prim.Native.Nat.{ℕ}
 use Rattle.promise.specs.Line.{Line, refused, done}
 use Rattle.promise.specs.Outcome.{Outcome, Refused, Done}
@@ -38,7 +38,7 @@ paper (answer.Acked v k) =
     (code v ∷ k .cack .0 ∷ k .block .base .0 ∷ k .block .bitmap ∷ k .count ∷ k .entropy ∷ digit (k .rtx) ∷ digit (k .mark) ∷ [])
     (k .mpr ∷ [])
 paper (answer.Nacked v k) = done 4 (code v ∷ k .psn .0 ∷ k .entropy ∷ digit (k .rtx) ∷ []) (k .reason ∷ [])
-paper (answer.Retired n place held) = done 5 (n ∷ place .0 ∷ held ∷ []) []
+paper (answer.Retired k) = done 5 (k .newly ∷ k .place .0 ∷ k .held ∷ []) []
 paper (answer.Marked n) = done 6 (n ∷ []) []
 paper (answer.Expired n) = done 7 (n ∷ []) []
 paper (answer.Resent p) = done 8 (p .0 ∷ []) []

@@ -10,6 +10,7 @@ use Rattle.lists.specs.Lists.{lead, any}
 use Rattle.promise.specs.Outcome.{Outcome, Done}
 use Rattle.rules.specs.Sender.{Entry, Sender, outstanding, nth, held, unsent}
 use Rattle.rules.specs.declared.Block.{Block}
+use Rattle.rules.specs.declared.Report.{Report}
 use Rattle.rules.specs.declared.Answer.{Answer}
 use Rattle.rules.specs.declared.Answer.the-variants as answer
 
@@ -79,10 +80,10 @@ unfoldable pub after-sack : Sender → ℕ → Block → Sender
 after-sack x cack b = settle x (retire (named x cack b) (x .entries))
 
 -- "The answer is the count of packets newly retired .., then the place and held bytes"
-unfoldable pub report : Sender → ℕ → Block → Answer
+unfoldable pub report : Sender → ℕ → Block → Report
 report x cack b =
     let y = after-sack x cack b in
-    answer.Retired (newly (named x cack b) (x .entries)) (psn (y .place)) (held y)
+    record { newly = newly (named x cack b) (x .entries); place = psn (y .place); held = held y }
 
 unfoldable pub acknowledged : Sender → ℕ → Block → Outcome Answer Sender
-acknowledged x cack b = Done (after-sack x cack b) (report x cack b)
+acknowledged x cack b = Done (after-sack x cack b) (answer.Retired (report x cack b))

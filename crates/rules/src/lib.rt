@@ -122,6 +122,13 @@ pub struct Nack {
     pub rtx: bool,
 }
 
+// What a SACK did: packets newly retired, and the place and the held bytes after it.
+pub struct Report {
+    pub newly: u32,
+    pub place: Psn,
+    pub held: u32,
+}
+
 // The answer to an event.
 pub enum Answer {
     // The number of the refusal.
@@ -132,8 +139,8 @@ pub enum Answer {
     Sent(Psn),
     Acked(Verdict, Sack),
     Nacked(Verdict, Nack),
-    // A SACK's: packets newly retired, the place and the held bytes after it.
-    Retired { newly: u32, place: Psn, held: u32 },
+    // What a SACK did.
+    Retired(Report),
     // How many a NACK marked, and how many a timer.
     Marked(u8),
     Expired(u8),

@@ -3,7 +3,7 @@
 use mathlib.Core.Path.{_≡_, refl, sym, ap, ap₂, subst, _∙_}
 use mathlib.Core.Bool.{Bool, true, false, not, cond, _&&_, _||_, false≢true, or-true, or-false, and-true, and-false}
 use mathlib.Core.List.{List, map}
-use Prim.Native.Nat.{ℕ, suc, _+_, _-_, _*_, _/_, _%_, _≤_, _<_}
+use Prim.Native.Nat.{ℕ, suc, _+_, _-_, _*_, _%_, _≤_, _<_}
 use native.Mathlib.Omega.{arith}
 use native.Mathlib.Decide.{decLt}
 use lib.Dec.{ltb, leb}
@@ -26,7 +26,6 @@ use Rattle.rules.specs.Sender.{Entry, size-held, held, unsent}
 use Rattle.rules.specs.Sender as rule
 use Rattle.rules.specs.Retire.{any-set, unsent-cack, unsent-bit, names-unsent, up-to, has-bit, named, retired, retire, newly, is-retired, settle, after-sack, report}
 use Rattle.rules.specs.declared.Block.{Block}
-use Rattle.rules.specs.declared.Answer.the-variants as answer
 use Rattle.rules.proofs.Entries.{retire-table, newly-table}
 use Rattle.retire.specs.Rows.{names, fresh, size-by}
 use Rattle.retire.specs.Front.{row-first, reach, named-by, retired-then, marked-then, front, Moves}
@@ -349,8 +348,8 @@ module _ (x : Sender) (cack : ℕ) (b : Block) (R″ M″ : List ℕ) (out : Mov
     unfolding meaning
     place-is = ap (λ (y : rule.Sender). y .place) acknowledged-means
 
-    pub acknowledged-reports : answer.Retired (out .newly) now (x .held - out .bytes) ≡ report (meaning x) cack b
+    pub acknowledged-reports : record { newly = out .newly; place = now; held = x .held - out .bytes } ≡ report (meaning x) cack b
     unfolding report
     acknowledged-reports =
         let held-after : x .held - out .bytes ≡ held (after-sack (meaning x) cack b) = held-is ∙ sym (held-total acknowledged) ∙ ap held acknowledged-means in
-        λ i. answer.Retired (newly-is i) (psn (place-is i)) (held-after i)
+        λ i. record { newly = newly-is i; place = psn (place-is i); held = held-after i }

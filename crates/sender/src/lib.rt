@@ -13,6 +13,7 @@ use rules::Answer;
 use rules::Block;
 use rules::LARGEST_ROOM;
 use rules::Opening;
+use rules::Report;
 use rules::Sending;
 use rules::WORDS;
 
@@ -273,17 +274,18 @@ impl Sender {
         let mut marked = self.marked;
         let out = retire::acknowledge(&mut retired, &mut marked, &sizes, place, n, cack, block);
         let held = self.held - out.bytes;
+        let outstanding = n - out.by;
         let now = place.after(out.by);
         Stepped {
-            answer: Answer::Retired {
+            answer: Answer::Retired(Report {
                 newly: out.newly,
                 place: now,
                 held,
-            },
+            }),
             record: Sender {
                 room: self.room,
                 place: now,
-                outstanding: n - out.by,
+                outstanding,
                 held,
                 sizes,
                 retired,

@@ -21,11 +21,7 @@ fn heard(near: Connection, reply: Answer) -> u32
             let out = near.step(Use::Sends(Sending::Sack { cack, block }));
             let answer = out.answer;
             match answer {
-                Answer::Retired {
-                    newly,
-                    place: _,
-                    held: _,
-                } => newly,
+                Answer::Retired(report) => report.newly,
                 _ => 0,
             }
         }

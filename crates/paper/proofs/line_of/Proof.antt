@@ -1,5 +1,4 @@
 -- `line_of` meets its contract: each arm knows its case, and its values are that case's. Assumes nothing.
-use mathlib.Core.Path.{refl}
 use Rattle.rules.specs.Paper.{paper}
 use Rattle.paper.proofs.Showing.{shows}
 use borrow.Author.Needs.{needs}
@@ -48,14 +47,8 @@ nacked-requires c κs = search needs
 enum-known-answer-5 : tie.Need-enum-known-answer-5
 enum-known-answer-5 c = search needs
 
-cast-t16 : tie.Need-cast-t16
-cast-t16 c = search needs
-
-cast-t17 : tie.Need-cast-t17
-cast-t17 c = search needs
-
-cast-t18 : tie.Need-cast-t18
-cast-t18 c = search needs
+retired-requires : tie.Need-retired-requires
+retired-requires c κs = search needs
 
 enum-known-answer-6 : tie.Need-enum-known-answer-6
 enum-known-answer-6 c = search needs
@@ -110,7 +103,7 @@ returns-6 c = shows _ _ _ (c .before .before .answer4 .given .1) (c .nacked .ens
 
 returns-7 : tie.Need-returns-7
 unfolding paper
-returns-7 c = shows _ _ _ (c .before .before .answer5 .given .1) refl
+returns-7 c = shows _ _ _ (c .before .before .answer5 .given .1) (c .retired .ensures)
 
 returns-8 : tie.Need-returns-8
 unfolding paper
@@ -142,9 +135,7 @@ line-of-spec =
     enum-known-answer-4
     nacked-requires
     enum-known-answer-5
-    cast-t16
-    cast-t17
-    cast-t18
+    retired-requires
     enum-known-answer-6
     cast-one-2
     one-requires-2

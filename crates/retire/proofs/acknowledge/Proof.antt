@@ -71,8 +71,8 @@ cast-shed-2 c = search needs
 shed-requires-2 : tie.Need-shed-requires-2
 shed-requires-2 c κs = search needs
 
-sub-t20 : tie.Need-sub-t20
-sub-t20 c =
+sub-by : tie.Need-sub-by
+sub-by c =
     let retired = c .before .before .before .before .before .before .before .before .before .before .before .before .before .before in
     let run = c .before .before .before .before .before .before .before .before .run in
     past-place _ _ _ _ _ _ (start retired .pre) _ _ _ (rows retired) _ (run .ensures)
@@ -108,7 +108,7 @@ acknowledge-spec =
     shed-requires
     cast-shed-2
     shed-requires-2
-    sub-t20
+    sub-by
     same-length
     same-length-2
     returns)

@@ -1,9 +1,10 @@
 -- `Sender::acknowledge` meets its contract: the rows and the place are as the rule leaves them. Assumes nothing.
-use mathlib.Core.Path.{refl, sym, _∙_}
+use mathlib.Core.Path.{refl, sym, ap, _∙_}
 use mathlib.Core.Logic.{inr}
 use native.Mathlib.Omega.{arith}
 use Rattle.promise.proofs.Meeting.{does}
 use Rattle.rules.specs.Retire.{acknowledged}
+use Rattle.rules.specs.declared.Answer.the-variants as answer
 use Rattle.sender.proofs.Entries.{few}
 use Rattle.sender.proofs.Acknowledged.{RowsRetired, bytes-le, acknowledged-means, acknowledged-started, acknowledged-reports}
 use borrow.Author.Needs.{needs}
@@ -44,18 +45,18 @@ acknowledge-requires c κs =
 sub-held : tie.Need-sub-held
 sub-held c = bytes-le _ _ _ _ _ _ (rows (c .before .before .before .before))
 
+sub-outstanding : tie.Need-sub-outstanding
+sub-outstanding c = c .before .before .before .before .before .acknowledge .ensures .moved .within
+
 after-requires : tie.Need-after-requires
 after-requires c κs = search needs
-
-sub-t19 : tie.Need-sub-t19
-sub-t19 c = c .before .before .before .before .before .before .acknowledge .ensures .moved .within
 
 returns : tie.Need-returns
 unfolding acknowledged
 returns c =
     let r = rows (c .before .before .before .before .before .before) in
-    let now = c .before .after in
-    does _ _ refl (acknowledged-reports _ _ _ _ _ _ r (now .result) (now .ensures)) (acknowledged-means _ _ _ _ _ _ r (now .result) (now .ensures))
+    let now = c .after in
+    does _ _ refl (ap answer.Retired (acknowledged-reports _ _ _ _ _ _ r (now .result) (now .ensures))) (acknowledged-means _ _ _ _ _ _ r (now .result) (now .ensures))
     (inr (acknowledged-started _ _ _ _ _ _ r (now .result) (now .ensures)))
 
 pub acknowledge-spec : {M : Type 1} → statement M
@@ -67,6 +68,6 @@ acknowledge-spec =
     slice-aggregate-acknowledge-3
     acknowledge-requires
     sub-held
+    sub-outstanding
     after-requires
-    sub-t19
     returns)
