@@ -1,6 +1,6 @@
 -- Laws on functions of the index: each is counted up from 0, or compares two lists at every index. Assumes nothing.
 use mathlib.Core.Path.{_≡_, refl, sym, ap, ap₂, _∙_}
-use mathlib.Core.Bool.{Bool, true, false, cond, false≢true}
+use mathlib.Core.Bool.{Bool, true, false, cond, false≢true, _&&_}
 use mathlib.Core.List.{List, [], _∷_, _++_, map}
 use Prim.Native.Nat.{ℕ, zero, suc, _+_, _-_, _*_, _≤_, _<_}
 use native.Mathlib.Omega.{arith}
@@ -61,6 +61,14 @@ total-first (suc n) f = omega (arith, total-first n f)
 -- ---- weights of what passes
 pub weigh-same : (n : ℕ) (f g : ℕ → Bool) (w : ℕ → ℕ) → ((i : ℕ) → i < n → f i ≡ g i) → weigh n f w ≡ weigh n g w
 weigh-same n f g w h = total-same n _ _ (λ i p. ap (λ (b : Bool). cond b (w i) 0) (h i p))
+
+-- those that pass two tests, as the weight of those that pass the first
+pub tally-both : (n : ℕ) (f g : ℕ → Bool) → tally n (λ i. f i && g i) ≡ weigh n f (λ i. cond (g i) 1 0)
+tally-both n f g = total-same n _ _ (λ i p. each (f i) (g i))
+  where
+    each : (a b : Bool) → _≡_ {A = ℕ} (cond (a && b) 1 0) (cond a (cond b 1 0) 0)
+    each true b = refl
+    each false b = refl
 
 pub tally-le : (n : ℕ) (f : ℕ → Bool) → tally n f ≤ n
 tally-le n f = omega (arith, total-le n 1 (λ i. cond (f i) 1 0) (λ i. one (f i)))

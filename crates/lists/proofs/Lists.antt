@@ -103,7 +103,12 @@ module _ {A : Type 0} where
   all-drop P (suc k) [] p = p
   all-drop P (suc k) (a ∷ l) p = all-drop P k l (p .1)
 
--- ---- set
+-- ---- drop and set
+pub map-drop : {A B : Type 0} (f : A → B) (k : ℕ) (l : List A) → map f (drop k l) ≡ drop k (map f l)
+map-drop f zero l = refl
+map-drop f (suc k) [] = refl
+map-drop f (suc k) (a ∷ l) = map-drop f k l
+
 pub map-set : {A B : Type 0} (f : A → B) (l : List A) (i : ℕ) (a : A) → map f (set l i a) ≡ set (map f l) i (f a)
 map-set f [] i a = refl
 map-set f (b ∷ l) zero a = refl

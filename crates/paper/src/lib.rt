@@ -111,12 +111,12 @@ fn retired(k: Report) -> Shown
 {
     Shown {
         number: 0,
-        many: 3,
+        many: 4,
         values: [
             k.newly as u64,
             k.place.0 as u64,
             k.held as u64,
-            0,
+            k.alarms as u64,
             0,
             0,
             0,

@@ -61,7 +61,7 @@ module _ (retired marked sizes : List ℕ) (place n : ℕ) (f : ℕ → Bool) (r
 
   -- whole words go
   module _ (R″ M″ : List ℕ) (R-shed : Becomes R R″ (λ p. at R (64 * (t / 64) + p))) (M-shed : Becomes M M″ (λ p. at M (64 * (t / 64) + p))) where
-    pub moves : Moves retired marked sizes place n f R″ M″ (record { newly = out .newly; bytes = out .bytes; by = t - offset place })
+    pub moves : Moves retired marked sizes place n f R″ M″ (record { newly = out .newly; alarms = out .alarms; bytes = out .bytes; by = t - offset place })
     moves = record {
       moved = moved;
       retired-are = record {
@@ -73,5 +73,6 @@ module _ (retired marked sizes : List ℕ) (place n : ℕ) (f : ℕ → Bool) (r
         bits-are = λ p. M-shed .bits-are p ∙ rows .marked-are .bits-are (64 * (t / 64) + p) ∙ ap (λ (u : ℕ). marked-then marked f (u + p)) front-is;
       };
       counted = rows .counted;
+      alarmed = rows .alarmed;
       weighed = rows .weighed;
     }

@@ -1,6 +1,6 @@
 -- What each public function's contract allows is settled: a test's outcome, and the rows, the counts and the way that the place moves.
 -- Assumes nothing.
-use mathlib.Core.Path.{_≡_, refl, sym, ap, subst, _∙_}
+use mathlib.Core.Path.{_≡_, refl, sym, subst, _∙_}
 use mathlib.Core.Bool.{Bool, not}
 use mathlib.Core.List.{List}
 use Prim.Native.Nat.{ℕ, _+_, _%_, _^_, _<_}
@@ -46,7 +46,7 @@ pub retire-settled : (retired marked sizes : List ℕ) (first : ℕ) (f : ℕ �
 retire-settled retired marked sizes first f us vs xs ys r s small-us small-vs small-xs small-ys p q = (
   becomes-settled retired us xs _ small-us small-xs (p .retired-are) (q .retired-are),
   becomes-settled marked vs ys _ small-vs small-ys (p .marked-are) (q .marked-are),
-  λ i. record { newly = (p .counted ∙ sym (q .counted)) i; bytes = (p .weighed ∙ sym (q .weighed)) i },
+  λ i. record { newly = (p .counted ∙ sym (q .counted)) i; alarms = (p .alarmed ∙ sym (q .alarmed)) i; bytes = (p .weighed ∙ sym (q .weighed)) i },
 )
 
 pub acknowledge-settled : (retired marked sizes : List ℕ) (place n : ℕ) (f : ℕ → Bool) (us vs xs ys : List ℕ) (r s : Moved)
@@ -58,5 +58,10 @@ acknowledge-settled retired marked sizes place n f us vs xs ys r s small-us smal
     let vs-are = subst (λ (m : ℕ). Becomes marked vs (λ k. marked-then marked f (front place m + k))) far (p .marked-are) in (
       becomes-settled retired us xs _ small-us small-xs us-are (q .retired-are),
       becomes-settled marked vs ys _ small-vs small-ys vs-are (q .marked-are),
-      λ i. record { newly = (p .counted ∙ sym (q .counted)) i; bytes = (p .weighed ∙ sym (q .weighed)) i; by = far i },
+      λ i. record {
+        newly = (p .counted ∙ sym (q .counted)) i;
+        alarms = (p .alarmed ∙ sym (q .alarmed)) i;
+        bytes = (p .weighed ∙ sym (q .weighed)) i;
+        by = far i;
+      },
     )

@@ -11,10 +11,10 @@ use borrow.Author.Tests.{lt-ltb, le-ltb}
 use Rattle.psn.specs.Psn.{after}
 use Rattle.lists.specs.Index.{total, weigh, tally}
 use Rattle.word.specs.Word.{bit-at, Bits, only-in}
-use Rattle.lists.proofs.Index.{total-le}
+use Rattle.lists.proofs.Index.{total-le, weigh-same}
 use Rattle.row.specs.Row.{at, bits, Becomes}
-use Rattle.row.proofs.Rows.{at-word, at-past, row-set, weigh-word, tally-word}
-use Rattle.retire.specs.Rows.{fresh, size-by, OneRetired, Retires}
+use Rattle.row.proofs.Rows.{at-word, at-past, row-set, weigh-word}
+use Rattle.retire.specs.Rows.{fresh, mark-by, size-by, OneRetired, Retires}
 use Rattle.retire.specs.declared.Retired.{Retired}
 use Rattle.word.proofs.Compare.{leb-same}
 use Rattle.retire.proofs.Naming.{size-on}
@@ -26,6 +26,10 @@ weigh-le n b f w h = total-le n b (λ i. cond (f i) (w i) 0) (λ i. go i (f i))
     go : (i : ℕ) (t : Bool) → cond t (w i) 0 ≤ b
     go i true = h i
     go i false = omega arith
+
+pub mark-light : (b : Bool) → cond b 1 0 ≤ 1
+mark-light true = omega arith
+mark-light false = omega arith
 
 -- ---- a row, whose bits below 64 j were joined to f by an operation that a clear bit leaves alone
 module _ (op : Bool → Bool → Bool) (idle : (b : Bool) → op b false ≡ b) (f : ℕ → Bool) (W : List ℕ) where
@@ -62,57 +66,71 @@ module _ (op : Bool → Bool → Bool) (idle : (b : Bool) → op b false ≡ b) 
             ∙ ap (λ (t : Bool). op (at W p) (f p && t)) (leb-same (suc p) (64 * j) (suc p) (64 * (j + 1)) (λ h. omega arith) (λ h. omega (arith, n)))
 
 -- ---- the words below j are retired
-pub record Upto (R M sizes : List ℕ) (first : ℕ) (f : ℕ → Bool) (j : ℕ) (R′ M′ : List ℕ) (newly sum : ℕ) : Type 0 where
+pub record Upto (R M sizes : List ℕ) (first : ℕ) (f : ℕ → Bool) (j : ℕ) (R′ M′ : List ℕ) (newly alarms sum : ℕ) : Type 0 where
   pub within : j ≤ length R
   pub retired-are : Becomes R R′ (λ p. at R p || f p && ltb p (64 * j))
   pub marked-are : Becomes M M′ (λ p. at M p && not (f p && ltb p (64 * j)))
   pub counted : newly ≡ tally (64 * j) (fresh R f)
+  pub alarmed : alarms ≡ weigh (64 * j) (fresh R f) (mark-by M)
   pub weighed : sum ≡ weigh (64 * j) (fresh R f) (size-by sizes first)
 
 module _ (R M sizes : List ℕ) (first : ℕ) (f : ℕ → Bool) where
-  pub upto-none : Upto R M sizes first f 0 R M 0 0
+  pub upto-none : Upto R M sizes first f 0 R M 0 0 0
   unfolding total
   upto-none = record {
     within = omega arith;
     retired-are = joined-none (λ a b. a || b) or-false f R;
     marked-are = joined-none (λ a b. a && not b) and-true f M;
     counted = refl;
+    alarmed = refl;
     weighed = refl;
   }
 
   module _ (same : length M ≡ length R) where
     -- one word more: the SACK names `named` in it, which is retired as `out` says and weighs `more`
-    pub upto-more : (j : ℕ) (R′ M′ : List ℕ) (newly sum : ℕ) → Upto R M sizes first f j R′ M′ newly sum → j < length R
+    pub upto-more : (j : ℕ) (R′ M′ : List ℕ) (newly alarms sum : ℕ) → Upto R M sizes first f j R′ M′ newly alarms sum → j < length R
         → (named start more : ℕ) (out : Retired) → Bits named (λ b. f (64 * j + b)) → OneRetired (getD R′ j 0) (getD M′ j 0) named out
         → start ≡ after first (64 * j) → more ≡ weigh 64 (bit-at (out .fresh)) (size-by sizes start)
-        → Upto R M sizes first f (j + 1) (set R′ j (out .retired)) (set M′ j (out .marked)) (newly + out .newly) (sum + more)
-    upto-more j R′ M′ newly sum u l named start more out is h start-is more-is = record {
+        → Upto R M sizes first f (j + 1) (set R′ j (out .retired)) (set M′ j (out .marked)) (newly + out .newly) (alarms + out .alarms) (sum + more)
+    upto-more j R′ M′ newly alarms sum u l named start more out is h start-is more-is = record {
       within = omega arith;
       retired-are = joined-more (λ a b. a || b) or-false f R j R′ (u .retired-are) (out .retired) named l (h .retired-are) is;
       marked-are = joined-more (λ a b. a && not b) and-true f M j M′ (u .marked-are) (out .marked) named (omega arith) (h .marked-are) is;
-      counted = ap₂ (λ (x y : ℕ). x + y) (u .counted) (h .counted) ∙ sym (tally-word (fresh R f) (only-in named (getD R′ j 0)) j new);
-      weighed = ap₂ (λ (x y : ℕ). x + y) (u .weighed) more-is
-          ∙ sym (weigh-word (fresh R f) (bit-at (out .fresh)) (size-by sizes first) (size-by sizes start) j (λ b p. new b p ∙ sym (h .fresh-are b p)) weight);
+      counted = one-more (λ p. 1) (λ b. 1) (λ b p. refl) newly (out .newly) (u .counted) (h .counted);
+      alarmed = one-more (mark-by M) (λ b. cond (bit-at (getD M′ j 0) b) 1 0) mark alarms (out .alarms) (u .alarmed) (h .alarmed);
+      weighed = one-more (size-by sizes first) (size-by sizes start) size sum more (u .weighed) (more-is ∙ weigh-same 64 _ _ _ (h .fresh-are));
     }
       where
-        new : (b : ℕ) → b < 64 → fresh R f (64 * j + b) ≡ only-in named (getD R′ j 0) b
-        new b p =
-            let stood = still (λ x y. x || y) or-false f R j R′ (u .retired-are) (out .retired) named l (h .retired-are) is b p in
-            sym (ap₂ (λ (x y : Bool). x && not y) (is b p) stood)
+        -- whatever is counted of the newly retired: w is what a bit of the row weighs, and v what a bit of the word does
+        one-more : (w v : ℕ → ℕ) → ((b : ℕ) → b < 64 → w (64 * j + b) ≡ v b) → (so-far more : ℕ) → so-far ≡ weigh (64 * j) (fresh R f) w
+            → more ≡ weigh 64 (only-in named (getD R′ j 0)) v → so-far + more ≡ weigh (64 * (j + 1)) (fresh R f) w
+        one-more w v weight so-far more e d =
+            ap₂ (λ (x y : ℕ). x + y) e d ∙ sym (weigh-word (fresh R f) (only-in named (getD R′ j 0)) w v j new weight)
+          where
+            new : (b : ℕ) → b < 64 → fresh R f (64 * j + b) ≡ only-in named (getD R′ j 0) b
+            new b p =
+                let stood = still (λ x y. x || y) or-false f R j R′ (u .retired-are) (out .retired) named l (h .retired-are) is b p in
+                sym (ap₂ (λ (x y : Bool). x && not y) (is b p) stood)
 
-        weight : (b : ℕ) → b < 64 → size-by sizes first (64 * j + b) ≡ size-by sizes start b
-        weight b p = sym (ap (λ (s : ℕ). size-by sizes s b) start-is ∙ ap (λ (k : ℕ). getD sizes k 0) (size-on first (64 * j) b))
+        mark : (b : ℕ) → b < 64 → mark-by M (64 * j + b) ≡ cond (bit-at (getD M′ j 0) b) 1 0
+        mark b p =
+            let stood = still (λ x y. x && not y) and-true f M j M′ (u .marked-are) (out .marked) named (omega arith) (h .marked-are) is b p in
+            ap (λ (t : Bool). cond t 1 0) (sym stood)
+
+        size : (b : ℕ) → b < 64 → size-by sizes first (64 * j + b) ≡ size-by sizes start b
+        size b p = sym (ap (λ (s : ℕ). size-by sizes s b) start-is ∙ ap (λ (k : ℕ). getD sizes k 0) (size-on first (64 * j) b))
 
     -- all words are retired; past the end nothing is marked
-    pub all-retired : (j : ℕ) (R′ M′ : List ℕ) (newly sum : ℕ) → Upto R M sizes first f j R′ M′ newly sum → length R ≤ j
-        → Retires R M sizes first f R′ M′ (record { newly = newly; bytes = sum })
-    all-retired j R′ M′ newly sum u l =
+    pub all-retired : (j : ℕ) (R′ M′ : List ℕ) (newly alarms sum : ℕ) → Upto R M sizes first f j R′ M′ newly alarms sum → length R ≤ j
+        → Retires R M sizes first f R′ M′ (record { newly = newly; alarms = alarms; bytes = sum })
+    all-retired j R′ M′ newly alarms sum u l =
         let e : j ≡ length R = omega (arith, u .within) in
-        let v = subst (λ (k : ℕ). Upto R M sizes first f k R′ M′ newly sum) e u in
+        let v = subst (λ (k : ℕ). Upto R M sizes first f k R′ M′ newly alarms sum) e u in
         record {
           retired-are = v .retired-are;
           marked-are = record { long = v .marked-are .long; bits-are = λ p. v .marked-are .bits-are p ∙ go p (decLt p (bits R)) };
           counted = v .counted;
+          alarmed = v .alarmed;
           weighed = v .weighed;
         }
       where

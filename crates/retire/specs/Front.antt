@@ -11,7 +11,7 @@ use Rattle.row.specs.Row.{at, bits, Becomes}
 use Rattle.rules.specs.Numbers.{largest-room}
 use Rattle.rules.specs.Sender.{Sender, outstanding}
 use Rattle.rules.specs.declared.Block.{Block}
-use Rattle.retire.specs.Rows.{names, fresh, size-by, longest-weighed}
+use Rattle.retire.specs.Rows.{names, fresh, mark-by, size-by, longest-weighed}
 use Rattle.retire.specs.declared.Moved.{Moved}
 
 -- a record of the rules at this place, with n outstanding
@@ -59,4 +59,5 @@ pub record Moves (retired marked sizes : List ℕ) (place n : ℕ) (f : ℕ → 
   pub retired-are : Becomes retired retired′ (λ p. retired-then retired f (front place (r .by) + p))
   pub marked-are : Becomes marked marked′ (λ p. marked-then marked f (front place (r .by) + p))
   pub counted : r .newly ≡ tally (bits retired) (fresh retired f)
+  pub alarmed : r .alarms ≡ weigh (bits retired) (fresh retired f) (mark-by marked)
   pub weighed : r .bytes ≡ weigh (bits retired) (fresh retired f) (size-by sizes (row-first place))

@@ -1,6 +1,6 @@
 -- A SACK over rows of words: bit p of a row is the packet number p after `first`.
 use mathlib.Core.Path.{_≡_}
-use mathlib.Core.Bool.{Bool, not, _&&_, _||_}
+use mathlib.Core.Bool.{Bool, not, cond, _&&_, _||_}
 use mathlib.Core.List.{List}
 use Prim.Native.Nat.{ℕ, _+_, _%_, _≤_}
 use lib.Dec.{leb, ltb}
@@ -31,6 +31,10 @@ names first upto b p = ltb p upto || has-bit b (after first p)
 abbrev pub size-by : List ℕ → ℕ → ℕ → ℕ
 size-by sizes first p = getD sizes ((first + p) % largest-room) 0
 
+-- what bit p weighs among the false alarms: 1 where it is marked
+abbrev pub mark-by : List ℕ → ℕ → ℕ
+mark-by marked p = cond (at marked p) 1 0
+
 -- so many words that the sizes of all their bits, of 16 bits each, add up in 32 bits
 abbrev pub longest-weighed : ℕ
 longest-weighed = 512
@@ -47,14 +51,17 @@ pub record OneRetired (retired marked named : ℕ) (r : Retired) : Type 0 where
   pub marked-are : Bits (r .marked) (only-in marked named)
   pub fresh-are : Bits (r .fresh) (only-in named retired)
   pub counted : r .newly ≡ tally 64 (only-in named retired)
+  -- "Retiring one 64-bit word of PSNs shall also count the ones that were marked" (02, No. 8)
+  pub alarmed : r .alarms ≡ weigh 64 (only-in named retired) (λ i. cond (bit-at marked i) 1 0)
 
 -- named and not retired before
 abbrev pub fresh : List ℕ → (ℕ → Bool) → ℕ → Bool
 fresh retired f p = f p && not (at retired p)
 
--- the rows: what f names is retired and unmarked; the count and the bytes of what is newly retired
+-- the rows: what f names is retired and unmarked; of what is newly retired, how many, how many that were marked, and the bytes
 pub record Retires (retired marked sizes : List ℕ) (first : ℕ) (f : ℕ → Bool) (retired′ marked′ : List ℕ) (r : Sum) : Type 0 where
   pub retired-are : Becomes retired retired′ (λ p. at retired p || f p && ltb p (bits retired))
   pub marked-are : Becomes marked marked′ (λ p. at marked p && not (f p))
   pub counted : r .newly ≡ tally (bits retired) (fresh retired f)
+  pub alarmed : r .alarms ≡ weigh (bits retired) (fresh retired f) (mark-by marked)
   pub weighed : r .bytes ≡ weigh (bits retired) (fresh retired f) (size-by sizes first)

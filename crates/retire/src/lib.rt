@@ -114,12 +114,13 @@ fn bytes(sizes: &[u16], first: Psn, word: u64) -> u32
     sum
 }
 
-// One word after a SACK: its retired bits, its marked bits, what is newly retired and how many.
+// One word after a SACK: its retired bits, its marked bits, what is newly retired, how many, and how many of them were marked.
 pub struct Retired {
     pub retired: u64,
     pub marked: u64,
     pub fresh: u64,
     pub newly: u32,
+    pub alarms: u32,
 }
 
 // One word is retired: named has the bits that the SACK names.
@@ -132,12 +133,14 @@ fn one(retired: u64, marked: u64, named: u64) -> Retired
         marked: word::without(marked, named),
         fresh,
         newly: word::ones(fresh),
+        alarms: word::ones(fresh & marked),
     }
 }
 
-// How many packets are newly retired, and their bytes.
+// How many packets are newly retired, how many of them were marked, and their bytes.
 pub struct Sum {
     pub newly: u32,
+    pub alarms: u32,
     pub bytes: u32,
 }
 
@@ -158,6 +161,7 @@ fn retire(
 {
     let n = retired.len();
     let mut newly: u32 = 0;
+    let mut alarms: u32 = 0;
     let mut sum: u32 = 0;
     let mut j: usize = 0;
     while j < n {
@@ -166,15 +170,21 @@ fn retire(
         retired[j] = out.retired;
         marked[j] = out.marked;
         newly += out.newly;
+        alarms += out.alarms;
         sum += bytes(sizes, first.after(64 * at), out.fresh);
         j += 1;
     }
-    Sum { newly, bytes: sum }
+    Sum {
+        newly,
+        alarms,
+        bytes: sum,
+    }
 }
 
-// How many packets are newly retired, their bytes, and how far the place moves.
+// How many packets are newly retired, how many of them were marked, their bytes, and how far the place moves.
 pub struct Moved {
     pub newly: u32,
+    pub alarms: u32,
     pub bytes: u32,
     pub by: u32,
 }
@@ -216,6 +226,7 @@ pub fn acknowledge(
     let by = t - s;
     Moved {
         newly: out.newly,
+        alarms: out.alarms,
         bytes: out.bytes,
         by,
     }

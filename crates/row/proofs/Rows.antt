@@ -1,5 +1,5 @@
 -- The bits of a row, word by word: position p is bit p % 64 of word p / 64. Assumes nothing.
-use mathlib.Core.Path.{_≡_, refl, sym, ap, ap₂, _∙_}
+use mathlib.Core.Path.{_≡_, sym, ap, ap₂, _∙_}
 use mathlib.Core.Bool.{Bool, true, false, not, cond, false≢true}
 use mathlib.Core.List.{List}
 use Prim.Native.Nat.{ℕ, _+_, _-_, _*_, _/_, _%_, _^_, _≤_, _<_}
@@ -9,7 +9,7 @@ use lib.Dec.{eqb}
 use lib.ListN.{length, getD, set, replicate, length-replicate, getD-replicate, List·getD-eq-default}
 use lib.Seq.{getD-set-same, getD-set-other}
 use borrow.Author.Tests.{eq-eqb, ne-eqb, lt-ltb, le-ltb, not-true}
-use Rattle.lists.specs.Index.{First, weigh, tally}
+use Rattle.lists.specs.Index.{First, weigh}
 use Rattle.word.specs.Word.{bit-at, Bits, bit-of-two}
 use Rattle.lists.proofs.Index.{total-add, total-same}
 use Rattle.word.proofs.Bits.{bit-none, bit-not}
@@ -122,6 +122,3 @@ weigh-word f g w u j e d =
     let k : 64 * (j + 1) ≡ 64 * j + 64 = omega arith in
     ap (λ (n : ℕ). weigh n f w) k ∙ total-add (64 * j) 64 _
     ∙ ap (λ (x : ℕ). weigh (64 * j) f w + x) (total-same 64 _ _ (λ b l. ap₂ (λ (t : Bool) (x : ℕ). cond t x 0) (e b l) (d b l)))
-
-pub tally-word : (f g : ℕ → Bool) (j : ℕ) → ((b : ℕ) → b < 64 → f (64 * j + b) ≡ g b) → tally (64 * (j + 1)) f ≡ tally (64 * j) f + tally 64 g
-tally-word f g j h = weigh-word f g (λ i. 1) (λ i. 1) j h (λ b l. refl)

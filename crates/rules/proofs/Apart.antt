@@ -71,7 +71,7 @@ answer-of l =
     ∷ answer.Closed
     ∷ answer.Sent (psn (n 0))
     ∷ cond (eqb (length (l .values)) 8) (acked l) (nacked l)
-    ∷ answer.Retired (record { newly = n 0; place = psn (n 1); held = n 2 })
+    ∷ answer.Retired (record { newly = n 0; place = psn (n 1); held = n 2; alarms = n 3 })
     ∷ answer.Marked (n 0)
     ∷ answer.Expired (n 0)
     ∷ answer.Resent (psn (n 0))

@@ -6,13 +6,13 @@ use mathlib.Core.List.{List, [], _∷_, _++_, map}
 use Prim.Native.Nat.{ℕ, zero, suc, _≤_}
 use native.Mathlib.Omega.{arith}
 use lib.Dec.{leb}
-use lib.ListN.{length, getD, drop, length-append, length-drop}
+use lib.ListN.{length, getD, length-append, length-drop}
 use lib.Seq.{getD-drop}
 use borrow.Author.Tests.{leb-false, not-false}
 use Rattle.psn.proofs.Circle.{after-lt}
 use Rattle.rules.specs.Numbers.{room-ok, size-ok}
 use Rattle.lists.specs.Lists.{lead, update, All}
-use Rattle.rules.specs.Sender.{Entry, Sender, outstanding, fresh, sent, with-entries, new, index}
+use Rattle.rules.specs.Sender.{Entry, Sender, fresh, sent, with-entries, new, index}
 use Rattle.rules.specs.Retire.{retire, retired, is-retired, settle, named, after-sack, acknowledged}
 use Rattle.rules.specs.Marks.{mark, markable, with-mark, nacked, resent, nearest}
 use Rattle.rules.specs.Sending.{step, send, send-refusals, sack, sack-refusals, nack, nack-refusals, timer, timer-refusals, resend, resend-refusals}
@@ -22,7 +22,7 @@ use Rattle.rules.specs.declared.Sending.{Sending}
 use Rattle.rules.specs.declared.Sending.the-variants as sending
 use Rattle.rules.specs.declared.Answer.{Answer}
 use Rattle.rules.specs.declared.Answer.the-variants as answer
-use Rattle.lists.proofs.Lists.{lead-false, length-update, map-update, all-update, all-snoc, all-drop}
+use Rattle.lists.proofs.Lists.{lead-false, length-update, map-update, map-drop, all-update, all-snoc, all-drop}
 use Rattle.promise.proofs.Refusing.{Past}
 use Rattle.promise.proofs.Outcomes.{After, after-unless, after-cond, after-done}
 
@@ -57,7 +57,7 @@ good-retired : (b : Bool) (e : Entry) → Good e → Good (cond b (retired e) e)
 good-retired true e h = record { size-good = h .size-good; not-both = refl }
 good-retired false e h = h
 
-all-retire : (f : ℕ → Bool) (l : List Entry) → All Good l → All Good (retire f l)
+pub all-retire : (f : ℕ → Bool) (l : List Entry) → All Good l → All Good (retire f l)
 unfolding All retire
 all-retire f [] h = h
 all-retire f (e ∷ l) h = (good-retired (f zero) e (h .0), all-retire (λ i. f (suc i)) l (h .1))
@@ -67,11 +67,6 @@ unfolding retire
 length-retire f [] = refl
 length-retire f (e ∷ l) = ap suc (length-retire (λ i. f (suc i)) l)
 
-map-drop : (k : ℕ) (l : List Entry) → map is-retired (drop k l) ≡ drop k (map is-retired l)
-map-drop zero l = refl
-map-drop (suc k) [] = refl
-map-drop (suc k) (e ∷ l) = map-drop k l
-
 sends-settle : (x : Sender) (l : List Entry) → Sends x → length l ≤ x .room → All Good l → Sends (settle x l)
 unfolding settle
 sends-settle x l k n h =
@@ -80,7 +75,7 @@ sends-settle x l k n h =
       room-good = k .room-good;
       place-low = after-lt (x .place) m;
       room-left = simp length-drop (omega arith);
-      first-open = ap (λ (bs : List Bool). getD bs 0 false) (map-drop m l) ∙ getD-drop m (map is-retired l) 0 false
+      first-open = ap (λ (bs : List Bool). getD bs 0 false) (map-drop is-retired m l) ∙ getD-drop m (map is-retired l) 0 false
           ∙ ap (λ (i : ℕ). getD (map is-retired l) i false) (omega arith) ∙ lead-false (map is-retired l);
       entries-good = all-drop Good m l h;
     }

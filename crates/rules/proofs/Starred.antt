@@ -5,4 +5,4 @@ use Rattle.rules.proofs.Unfold.{rules}
 
 pub starred : Starred
 unfolding rules lines bench records ends answers told expected
-starred = record { as-worked = refl; count-wraps = refl; lengths = refl }
+starred = record { as-worked = refl; count-wraps = refl; counted-once = refl; lengths = refl }

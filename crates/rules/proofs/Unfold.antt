@@ -9,7 +9,7 @@ use Rattle.rules.specs.Receiver as receiver
 use Rattle.rules.specs.Receiving as receiving
 use Rattle.rules.specs.Sender as sender
 use Rattle.rules.specs.Retire.{any-set, at-odds, contradicts, unsent-cack, up-to, unsent-bit, names-unsent, has-bit, named}
-use Rattle.rules.specs.Retire.{retire, newly, settle, after-sack, report, acknowledged}
+use Rattle.rules.specs.Retire.{retire, over-newly, settle, after-sack, report, acknowledged}
 use Rattle.rules.specs.Marks.{mark, nacked, nearest, resent}
 use Rattle.rules.specs.Sending as sending
 use Rattle.rules.specs.Connection as connection
@@ -30,7 +30,7 @@ unfolding bit-at after distance room-ok size-ok flags-ok reason-ok
     receiving.arrive-refusals receiving.arrive receiving.step
     sender.next sender.size-held sender.held sender.fresh sender.start-refusals sender.start sender.with-entries sender.sent sender.index
     sender.unsent
-    any-set at-odds contradicts unsent-cack up-to unsent-bit names-unsent has-bit named retire newly settle after-sack report acknowledged
+    any-set at-odds contradicts unsent-cack up-to unsent-bit names-unsent has-bit named retire over-newly settle after-sack report acknowledged
     mark nacked nearest resent
     sending.send-refusals sending.send sending.sack-refusals sending.sack sending.nack-refusals sending.nack
     sending.timer-refusals sending.timer sending.resend-refusals sending.resend

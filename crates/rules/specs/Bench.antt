@@ -1,8 +1,8 @@
 -- 01, From the bench: the starred cases, and L, as one table. A case asks for events on a fresh connection, with a look at its receiver's
--- record between them, for a log's records or for its answers, and has the lines that come back. 02, No. 3 amends S1, and No. 4 "R3's
--- record and the known half of R6".
+-- record between them, for a log's records or for its answers, and has the lines that come back. 02, No. 3 amends S1, No. 4 "R3's
+-- record and the known half of R6", and No. 8 the line of a SACK.
 use mathlib.Core.Path.{_≡_}
-use mathlib.Core.Bool.{false}
+use mathlib.Core.Bool.{true, false}
 use mathlib.Core.List.{List, [], _∷_, _++_, map}
 use Prim.Native.Nat.{ℕ, zero, suc, _+_, _-_, _^_}
 use lib.ListN.{length, replicate}
@@ -12,19 +12,22 @@ use Rattle.rules.specs.Numbers.{turn, half, after, psn}
 use Rattle.lists.specs.Lists.{pack}
 use Rattle.rules.specs.Receiver.{Receiver, room}
 use Rattle.rules.specs.Receiving.{Arrive, arrive}
+use Rattle.rules.specs.Sender.{Sender}
+use Rattle.rules.specs.Retire.{report}
 use Rattle.rules.specs.Connection.{Connection, empty, start, step}
 use Rattle.rules.specs.Kinds.{plain}
 use Rattle.rules.specs.Paper.{answered, paper, read-line}
 use Rattle.rules.specs.Log.{read, whole}
 use Rattle.rules.specs.Replay.{Replied, Last, End, Log, replay}
-use Rattle.rules.specs.declared.Sending.the-variants.{Send, Sack, Nack, Resend}
+use Rattle.rules.specs.declared.Report.{Report}
+use Rattle.rules.specs.declared.Sending.the-variants.{Send, Sack, Nack, Timer, Resend}
 use Rattle.rules.specs.declared.Use.{Use}
 use Rattle.rules.specs.declared.Use.the-variants.{Sends, Receives}
 use Rattle.rules.specs.declared.Read.the-variants.{Record, Nothing}
 
 -- a row's name on the bench: R1 to R6, S1 to S5, what is given before the first, and what follows the last: a packet that comes again, a
--- SACK that comes late; a SACK of which half might be retired; a NACK's reason, which no line of a log shows; and a SACK whose one set bit
--- lies so far ahead of cack
+-- SACK that comes late; a SACK of which half might be retired; a NACK's reason, which no line of a log shows; a SACK whose one set bit lies
+-- so far ahead of cack; and a SACK that finds so many false alarms
 pub data Label : Type 0 where
   R : ℕ → Label
   S : ℕ → Label
@@ -34,6 +37,7 @@ pub data Label : Type 0 where
   HalfOf : Label
   Reason : ℕ → Label
   Bit : ℕ → Label
+  Alarms : ℕ → Label
 
 -- what a row asks of the bench's connection: an event, or what its receiver keeps
 pub data Asked : Type 0 where
@@ -126,9 +130,22 @@ acked v cack base bitmap count = done 4 (v ∷ cack ∷ base ∷ bitmap ∷ coun
 abbrev pub nacked : ℕ → ℕ → ℕ → Line
 nacked v p reason = done 4 (v ∷ p ∷ 7 ∷ 0 ∷ []) (reason ∷ [])
 
--- newly retired, the place and held bytes
-abbrev pub retired : ℕ → ℕ → ℕ → Line
-retired newly place held = done 5 (newly ∷ place ∷ held ∷ []) []
+-- newly retired, the place, held bytes and false alarms
+abbrev pub retired : ℕ → ℕ → ℕ → ℕ → Line
+retired newly place held alarms = done 5 (newly ∷ place ∷ held ∷ alarms ∷ []) []
+
+-- 100 bytes are sent as p; p is marked by a NACK, or by a timer; p is resent
+abbrev pub sends : ℕ → Row
+sends p = row Given (Sends (Send 100)) (done 3 (p ∷ []) [])
+
+abbrev pub nacks : ℕ → Row
+nacks p = row Given (Sends (Nack (psn p) 1)) (done 6 (1 ∷ []) [])
+
+abbrev pub expires : ℕ → Row
+expires p = row Given (Sends (Timer (psn p))) (done 7 (1 ∷ []) [])
+
+abbrev pub resends : ℕ → Row
+resends p = row Given (Sends Resend) (done 8 (p ∷ []) [])
 
 -- R1 to R6, and then 63 once more, which is accepted and still in the window
 abbrev pub receiving : List Row
@@ -160,12 +177,7 @@ reasons =
 
 -- "four sends of 100"
 abbrev pub four-sends : List Row
-four-sends =
-    row Given (Sends (Send 100)) (done 3 (10 ∷ []) [])
-    ∷ row Given (Sends (Send 100)) (done 3 (11 ∷ []) [])
-    ∷ row Given (Sends (Send 100)) (done 3 (12 ∷ []) [])
-    ∷ row Given (Sends (Send 100)) (done 3 (13 ∷ []) [])
-    ∷ []
+four-sends = sends 10 ∷ sends 11 ∷ sends 12 ∷ sends 13 ∷ []
 
 -- S1 to S5, and then a SACK whose cack is behind the place: "its set bits still count". 02, No. 3: "Case S1 becomes 17; with cack 12 in its
 -- place it gives 8", and as S2 shows, nothing up to that cack was retired
@@ -173,13 +185,13 @@ abbrev pub sending : List Row
 sending =
     row (S 1) (sacks 13 14 1) (refused 17)
     ∷ row HalfOf (sacks 12 14 1) (refused 8)
-    ∷ row (S 2) (sacks 9 10 10) (retired 2 9 200)
-    ∷ row (S 3) (sacks 9 10 10) (retired 0 9 200)
+    ∷ row (S 2) (sacks 9 10 10) (retired 2 9 200 0)
+    ∷ row (S 3) (sacks 9 10 10) (retired 0 9 200 0)
     ∷ row (S 4) (Sends (Nack (psn 12) 1)) (done 6 (1 ∷ []) [])
     ∷ row (S 4) (Sends Resend) (done 8 (12 ∷ []) [])
     ∷ row (S 4) (Sends Resend) (refused 9)
-    ∷ row (S 5) (sacks 11 12 0) (retired 1 11 100)
-    ∷ row Late (sacks 9 12 1) (retired 1 13 0)
+    ∷ row (S 5) (sacks 11 12 0) (retired 1 11 100 0)
+    ∷ row Late (sacks 9 12 1) (retired 1 13 0 0)
     ∷ []
 
 -- a SACK with one set bit, bit j of its block, which lies d ahead of cack
@@ -202,11 +214,11 @@ contradicting =
     ∷ bit 9 (half - 1) 0 (refused 8)
     ∷ bit 9 (half - 1) 63 (refused 8)
     ∷ row (Bit 1) (sacks 9 10 3) (refused 17)
-    ∷ bit 9 2 63 (retired 1 9 300)
+    ∷ bit 9 2 63 (retired 1 9 300 0)
     ∷ bit 12 half 0 (refused 17)
-    ∷ bit 12 (half - 1) 0 (retired 2 12 100)
+    ∷ bit 12 (half - 1) 0 (retired 2 12 100 0)
     ∷ bit 9 1 0 (refused 17)
-    ∷ bit 9 4 0 (retired 1 13 0)
+    ∷ bit 9 4 0 (retired 1 13 0 0)
     ∷ bit 9 0 0 (refused 17)
     ∷ bit 13 1 0 (refused 17)
     ∷ bit 13 2 0 (refused 8)
@@ -214,7 +226,41 @@ contradicting =
     ∷ bit 20 2 0 (refused 8)
     ∷ row (Bit 0) (sacks turn 0 1) (refused 5)
     ∷ row (Bit 1) (sacks 13 (turn + 14) 1) (refused 5)
-    ∷ row Late (sacks 13 13 0) (retired 0 13 0)
+    ∷ row Late (sacks 13 13 0) (retired 0 13 0 0)
+    ∷ []
+
+-- 02, No. 8, after four sends. None is marked; one is marked and retired by cack; one by a bit, and neither the same SACK again nor a cack
+-- that passes over it counts it twice. A SACK that names a PSN by cack and by a bit is refused with 17. Then: marked, resent, retired;
+-- marked, resent, marked again, retired; marked and still outstanding, and then retired; three at once, of which two were marked
+abbrev pub alarming : List Row
+alarming =
+    row (Alarms 0) (sacks 10 11 0) (retired 1 10 300 0)
+    ∷ nacks 11
+    ∷ row (Alarms 1) (sacks 11 12 0) (retired 1 11 200 1)
+    ∷ expires 13
+    ∷ row (Alarms 1) (sacks 11 12 2) (retired 1 11 100 1)
+    ∷ row (Alarms 0) (sacks 11 12 2) (retired 0 11 100 0)
+    ∷ nacks 12
+    ∷ row (Bit 0) (sacks 12 12 1) (refused 17)
+    ∷ resends 12
+    ∷ row (Alarms 0) (sacks 13 14 0) (retired 1 13 0 0)
+    ∷ sends 14
+    ∷ expires 14
+    ∷ resends 14
+    ∷ nacks 14
+    ∷ row (Alarms 1) (sacks 14 15 0) (retired 1 14 0 1)
+    ∷ sends 15
+    ∷ sends 16
+    ∷ nacks 16
+    ∷ row (Alarms 0) (sacks 15 16 0) (retired 1 15 100 0)
+    ∷ row (Alarms 1) (sacks 16 17 0) (retired 1 16 0 1)
+    ∷ sends 17
+    ∷ sends 18
+    ∷ sends 19
+    ∷ sends 20
+    ∷ expires 17
+    ∷ nacks 20
+    ∷ row (Alarms 2) (sacks 17 18 6) (retired 3 17 100 2)
     ∷ []
 
 -- L
@@ -240,7 +286,7 @@ answers-L = done 1 [] [] ∷ done 3 (10 ∷ []) [] ∷ acked 0 10 11 0 0 ∷ don
 abbrev pub cases : List Case
 cases =
     Events receiving ∷ Events reasons ∷ Events (four-sends ++ sending) ∷ Events (four-sends ++ contradicting)
-    ∷ Records log-L reading-L ∷ Answers log-L answers-L ∷ []
+    ∷ Events (four-sends ++ alarming) ∷ Records log-L reading-L ∷ Answers log-L answers-L ∷ []
 
 -- a receiver whose count is the last before "a 32-bit count of bytes that wraps"
 abbrev pub nearly-wrapped : Receiver
@@ -250,9 +296,18 @@ nearly-wrapped = record { expected = 0; window = replicate 64 false; count = 429
 abbrev pub wrapped : ℕ → ℕ
 wrapped p = left nearly-wrapped (arrive nearly-wrapped (record { psn = psn p; size = 100; flags = 0; entropy = 7 })) .count
 
+-- a sender with one packet outstanding, 10, which is marked; and what it reports of cack 10 with the bit for 10 set. A SACK that says so is
+-- refused with 17 before it is reported (02, No. 3), so no event shows it
+abbrev pub one-marked : Sender
+one-marked = record { room = 64; place = 9; entries = record { size = 100; retired = false; marked = true } ∷ [] }
+
+abbrev pub named-twice : Report
+named-twice = report one-marked 10 (record { base = psn 10; bitmap = 1 })
+
 -- the one claim: each case is answered as it says. "Whole lengths: 14, 4, 6, 14, 18, 8, 7, 4" stands beside it, and the wrap of the
--- count by a fresh packet and by a known one.
+-- count by a fresh packet and by a known one, and that a packet which cack and a bit name is counted once.
 pub record Starred : Type 0 where
   pub as-worked : map told cases ≡ map expected cases
   pub count-wraps : map wrapped (0 ∷ 16777215 ∷ []) ≡ 99 ∷ 99 ∷ []
+  pub counted-once : named-twice ≡ record { newly = 1; place = psn 10; held = 0; alarms = 1 }
   pub lengths : map whole (1 ∷ 2 ∷ 3 ∷ 4 ∷ 5 ∷ 6 ∷ 7 ∷ 8 ∷ []) ≡ 14 ∷ 4 ∷ 6 ∷ 14 ∷ 18 ∷ 8 ∷ 7 ∷ 4 ∷ []

@@ -27,7 +27,8 @@ code Trim = 4
 code TrimLastHop = 5
 
 -- "send the PSN; arrive 0 or 1: the arrival answer, cack, base, bitmap, count / 256, entropy, RTX, mark; arrive 2 to 5: arrival answer,
--- PSN, entropy, RTX; SACK: newly retired, place, held bytes; NACK and timer: newly marked; resend: PSN"
+-- PSN, entropy, RTX; SACK: newly retired, place, held bytes; NACK and timer: newly marked; resend: PSN". 02, No. 8: the false alarms "as a
+-- fourth value, on the program's line too"
 unfoldable pub paper : Answer → Line
 paper (answer.Refused n) = refused n
 paper answer.Started = done 1 [] []
@@ -38,7 +39,7 @@ paper (answer.Acked v k) =
     (code v ∷ k .cack .0 ∷ k .block .base .0 ∷ k .block .bitmap ∷ k .count ∷ k .entropy ∷ digit (k .rtx) ∷ digit (k .mark) ∷ [])
     (k .mpr ∷ [])
 paper (answer.Nacked v k) = done 4 (code v ∷ k .psn .0 ∷ k .entropy ∷ digit (k .rtx) ∷ []) (k .reason ∷ [])
-paper (answer.Retired k) = done 5 (k .newly ∷ k .place .0 ∷ k .held ∷ []) []
+paper (answer.Retired k) = done 5 (k .newly ∷ k .place .0 ∷ k .held ∷ k .alarms ∷ []) []
 paper (answer.Marked n) = done 6 (n ∷ []) []
 paper (answer.Expired n) = done 7 (n ∷ []) []
 paper (answer.Resent p) = done 8 (p .0 ∷ []) []

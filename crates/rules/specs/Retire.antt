@@ -1,4 +1,4 @@
--- 01, The sending side: what a SACK says, and what it retires.
+-- 01, The sending side: what a SACK says, what it retires, and what it is answered.
 use mathlib.Core.Bool.{Bool, true, false, not, cond, _&&_, _||_}
 use mathlib.Core.List.{List, [], _∷_, map}
 use Prim.Native.Nat.{ℕ, zero, suc, _+_}
@@ -62,11 +62,6 @@ unfoldable pub retire : (ℕ → Bool) → List Entry → List Entry
 retire f [] = []
 retire f (e ∷ l) = cond (f zero) (retired e) e ∷ retire (λ i. f (suc i)) l
 
--- "the count of packets newly retired"
-unfoldable pub newly : (ℕ → Bool) → List Entry → ℕ
-newly f [] = 0
-newly f (e ∷ l) = cond (f zero && not (e .retired)) 1 0 + newly (λ i. f (suc i)) l
-
 abbrev pub is-retired : Entry → Bool
 is-retired e = e .retired
 
@@ -79,11 +74,26 @@ settle x l =
 unfoldable pub after-sack : Sender → ℕ → Block → Sender
 after-sack x cack b = settle x (retire (named x cack b) (x .entries))
 
--- "The answer is the count of packets newly retired .., then the place and held bytes"
+-- ---- what it is answered
+-- what the packets that it newly retires, named and not retired before, weigh together
+unfoldable pub over-newly : (Entry → ℕ) → (ℕ → Bool) → List Entry → ℕ
+over-newly w f [] = 0
+over-newly w f (e ∷ l) = cond (f zero && not (e .retired)) (w e) 0 + over-newly w (λ i. f (suc i)) l
+
+-- "the count of packets newly retired"
+abbrev pub newly : (ℕ → Bool) → List Entry → ℕ
+newly f l = over-newly (λ e. 1) f l
+
+-- false alarms: "the number of PSNs that were marked before and are retired by this SACK" (02, No. 8)
+abbrev pub false-alarms : (ℕ → Bool) → List Entry → ℕ
+false-alarms f l = over-newly (λ e. cond (e .marked) 1 0) f l
+
+-- "The answer is the count of packets newly retired .., then the place and held bytes", and the false alarms "as a fourth value" (02, No. 8)
 unfoldable pub report : Sender → ℕ → Block → Report
 report x cack b =
+    let f = named x cack b in
     let y = after-sack x cack b in
-    record { newly = newly (named x cack b) (x .entries); place = psn (y .place); held = held y }
+    record { newly = newly f (x .entries); place = psn (y .place); held = held y; alarms = false-alarms f (x .entries) }
 
 unfoldable pub acknowledged : Sender → ℕ → Block → Outcome Answer Sender
 acknowledged x cack b = Done (after-sack x cack b) (answer.Retired (report x cack b))

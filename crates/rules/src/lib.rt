@@ -122,11 +122,13 @@ pub struct Nack {
     pub rtx: bool,
 }
 
-// What a SACK did: packets newly retired, and the place and the held bytes after it.
+// What a SACK did: packets newly retired, the place and the held bytes after it, and the false alarms, those of the newly retired that were
+// marked.
 pub struct Report {
     pub newly: u32,
     pub place: Psn,
     pub held: u32,
+    pub alarms: u32,
 }
 
 // The answer to an event.

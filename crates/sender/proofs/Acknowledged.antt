@@ -24,10 +24,10 @@ use Rattle.row.specs.Row.{at, bits}
 use Rattle.rules.specs.Numbers.{psn, size-ok, largest-room, words}
 use Rattle.rules.specs.Sender.{Entry, size-held, held, unsent}
 use Rattle.rules.specs.Sender as rule
-use Rattle.rules.specs.Retire.{any-set, unsent-cack, unsent-bit, names-unsent, up-to, has-bit, named, retired, retire, newly, is-retired, settle, after-sack, report}
+use Rattle.rules.specs.Retire.{any-set, unsent-cack, unsent-bit, names-unsent, up-to, has-bit, named, retired, retire, newly, false-alarms, is-retired, settle, after-sack, report}
 use Rattle.rules.specs.declared.Block.{Block}
 use Rattle.rules.proofs.Entries.{retire-table, newly-table}
-use Rattle.retire.specs.Rows.{names, fresh, size-by}
+use Rattle.retire.specs.Rows.{names, fresh, mark-by, size-by}
 use Rattle.retire.specs.Front.{row-first, reach, named-by, retired-then, marked-then, front, Moves}
 use Rattle.retire.specs.declared.Moved.{Moved}
 use Rattle.retire.proofs.Naming.{size-on}
@@ -223,7 +223,13 @@ module _ (x : Sender) (cack : ℕ) (b : Block) (R″ M″ : List ℕ) (out : Mov
 
   newly-is : out .newly ≡ newly g (meaning x .entries)
   unfolding meaning
-  newly-is = all .rows .counted ∙ weigh-in (λ p. 1) (λ i. 1) (λ i l. refl) ∙ sym (newly-table g (x .outstanding) (entry x))
+  newly-is = all .rows .counted ∙ weigh-in (λ p. 1) (λ i. 1) (λ i l. refl) ∙ sym (newly-table (λ e. 1) g (x .outstanding) (entry x))
+
+  alarms-is : out .alarms ≡ false-alarms g (meaning x .entries)
+  unfolding meaning entry
+  alarms-is =
+      all .rows .alarmed ∙ weigh-in (mark-by (x .marked)) (λ i. cond (entry x i .marked) 1 0) (λ i l. refl)
+      ∙ sym (newly-table (λ e. cond (e .marked) 1 0) g (x .outstanding) (entry x))
 
   bytes-is : out .bytes ≡ weigh (x .outstanding) (λ i. g i && not (entry x i .retired)) (λ i. entry x i .size)
   unfolding entry
@@ -348,8 +354,8 @@ module _ (x : Sender) (cack : ℕ) (b : Block) (R″ M″ : List ℕ) (out : Mov
     unfolding meaning
     place-is = ap (λ (y : rule.Sender). y .place) acknowledged-means
 
-    pub acknowledged-reports : record { newly = out .newly; place = now; held = x .held - out .bytes } ≡ report (meaning x) cack b
+    pub acknowledged-reports : record { newly = out .newly; place = now; held = x .held - out .bytes; alarms = out .alarms } ≡ report (meaning x) cack b
     unfolding report
     acknowledged-reports =
         let held-after : x .held - out .bytes ≡ held (after-sack (meaning x) cack b) = held-is ∙ sym (held-total acknowledged) ∙ ap held acknowledged-means in
-        λ i. record { newly = newly-is i; place = psn (place-is i); held = held-after i }
+        λ i. record { newly = newly-is i; place = psn (place-is i); held = held-after i; alarms = alarms-is i }

@@ -281,6 +281,7 @@ impl Sender {
                 newly: out.newly,
                 place: now,
                 held,
+                alarms: out.alarms,
             }),
             record: Sender {
                 room: self.room,

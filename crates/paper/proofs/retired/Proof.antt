@@ -14,9 +14,12 @@ cast-t3 c = search needs
 cast-t4 : tie.Need-cast-t4
 cast-t4 c = search needs
 
+cast-t5 : tie.Need-cast-t5
+cast-t5 c = search needs
+
 returns : tie.Need-returns
 unfolding paper
 returns c = refl
 
 pub retired-spec : {M : Type 1} → statement M
-retired-spec = tie.close (tie.spec cast-t2 cast-t3 cast-t4 returns)
+retired-spec = tie.close (tie.spec cast-t2 cast-t3 cast-t4 cast-t5 returns)

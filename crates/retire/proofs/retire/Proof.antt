@@ -4,19 +4,20 @@ use native.Mathlib.Omega.{arith}
 use lib.ListN.{length, getD}
 use Rattle.word.specs.Word.{bit-at, only-in}
 use Rattle.lists.proofs.Index.{tally-le}
+use Rattle.row.specs.Row.{at}
 use Rattle.rules.specs.Numbers.{largest-room}
-use Rattle.retire.specs.Rows.{fresh, names, size-by}
-use Rattle.retire.proofs.Words.{Upto, upto-none, upto-more, all-retired, weigh-le}
+use Rattle.retire.specs.Rows.{fresh, names, mark-by, size-by}
+use Rattle.retire.proofs.Words.{Upto, upto-none, upto-more, all-retired, weigh-le, mark-light}
 use borrow.Author.Needs.{needs}
 use Rattle.retire.proofs.retire.Statement.{statement}
 use Rattle.retire.proofs.retire.Tie as tie
 
 abbrev Inv-loop : tie.InvT-loop
-Inv-loop retired₀ marked₀ sizes first upto block n newly₀ sum₀ j₀ retired marked newly sum j =
-    Upto retired₀ marked₀ sizes (first .0) (names (first .0) upto block) j retired marked newly sum
+Inv-loop retired₀ marked₀ sizes first upto block n newly₀ alarms₀ sum₀ j₀ retired marked newly alarms sum j =
+    Upto retired₀ marked₀ sizes (first .0) (names (first .0) upto block) j retired marked newly alarms sum
 
 abbrev μ-loop : tie.MeasureT-loop
-μ-loop retired₀ marked₀ sizes first upto block n newly₀ sum₀ j₀ retired marked newly sum j = length retired₀ - j
+μ-loop retired₀ marked₀ sizes first upto block n newly₀ alarms₀ sum₀ j₀ retired marked newly alarms sum j = length retired₀ - j
 
 loop-holds : tie.Need-loop-holds Inv-loop μ-loop
 loop-holds c = upto-none _ _ _ _ _
@@ -70,6 +71,22 @@ add-newly c =
       tally-le 64 (only-in named (getD (l .loop .retired) (l .loop .j) 0)),
     )
 
+add-alarms : tie.Need-add-alarms Inv-loop μ-loop
+add-alarms c =
+    let l = c .before .before .before .before .before .before .before in
+    let entry = l .before .before .before .before in
+    let named = c .before .before .before .named .result in
+    let f = names (entry .args .first .0) (entry .args .upto) (entry .args .block) in
+    omega (
+      arith,
+      entry .pre .retired-long,
+      l .loop .inv .within,
+      l .loop .inv .alarmed,
+      weigh-le (64 * l .loop .j) 1 (fresh (entry .args .retired .now) f) (mark-by (entry .args .marked .now)) (λ p. mark-light (at (entry .args .marked .now) p)),
+      c .before .before .one .ensures .alarmed,
+      weigh-le 64 1 (only-in named (getD (l .loop .retired) (l .loop .j) 0)) _ (λ i. mark-light (bit-at (getD (l .loop .marked) (l .loop .j) 0) i)),
+    )
+
 mul-after : tie.Need-mul-after Inv-loop μ-loop
 mul-after c = search needs
 
@@ -81,12 +98,12 @@ bytes-requires c κs = search needs
 
 add-sum : tie.Need-add-sum Inv-loop μ-loop
 add-sum c =
-    let l = c .before .before .before .before .before .before .before .before in
+    let l = c .before .before .before .before .before .before .before .before .before in
     let entry = l .before .before .before .before in
     let sizes = entry .args .sizes .now in
     let first = entry .args .first .0 in
     let f = names first (entry .args .upto) (entry .args .block) in
-    let read = c .before .before .before .before .before .before .before .before .before in
+    let read = c .before .before .before .before .before .before .before .before .before .before in
     let small : (a p : ℕ) → size-by sizes a p ≤ 65535 = λ a p. omega (arith, read .shared-slice-known .given ((a + p) % largest-room)) in
     let start = c .before .after .result .0 in
     omega (
@@ -96,7 +113,7 @@ add-sum c =
       l .loop .inv .weighed,
       weigh-le (64 * l .loop .j) 65535 (fresh (entry .args .retired .now) f) (size-by sizes first) (small first),
       c .bytes .ensures,
-      weigh-le 64 65535 (bit-at (c .before .before .before .one .result .fresh)) (size-by sizes start) (small start),
+      weigh-le 64 65535 (bit-at (c .before .before .before .before .one .result .fresh)) (size-by sizes start) (small start),
     )
 
 add-j : tie.Need-add-j Inv-loop μ-loop
@@ -107,17 +124,17 @@ loop-less c = search needs
 
 loop-again : tie.Need-loop-again Inv-loop μ-loop
 loop-again c =
-    let l = c .before .before .before .before .before .before .before .before in
+    let l = c .before .before .before .before .before .before .before .before .before in
     let entry = l .before .before .before .before in
     let a = entry .args in
     let f = names (a .first .0) (a .upto) (a .block) in
     let now = l .loop in
-    let inside = c .before .before .before .before .before .before .before .loop-test .taken in
-    let named = c .before .before .before .before .named in
-    let out = c .before .before .before .one in
+    let inside = c .before .before .before .before .before .before .before .before .loop-test .taken in
+    let named = c .before .before .before .before .before .named in
+    let out = c .before .before .before .before .one in
     let start = c .before .after in
     upto-more (a .retired .now) (a .marked .now) (a .sizes .now) (a .first .0) f (entry .pre .marked-long)
-    (now .j) (now .retired) (now .marked) (now .newly) (now .sum) (now .inv) inside
+    (now .j) (now .retired) (now .marked) (now .newly) (now .alarms) (now .sum) (now .inv) inside
     (named .result) (start .result .0) (c .bytes .result) (out .result) (named .ensures) (out .ensures) (start .ensures) (c .bytes .ensures)
 
 same-length : tie.Need-same-length Inv-loop μ-loop
@@ -134,7 +151,7 @@ returns c =
     let f = names (a .first .0) (a .upto) (a .block) in
     let now = l .loop in
     all-retired (a .retired .now) (a .marked .now) (a .sizes .now) (a .first .0) f (entry .pre .marked-long)
-    (now .j) (now .retired) (now .marked) (now .newly) (now .sum) (now .inv) (c .loop-test .left)
+    (now .j) (now .retired) (now .marked) (now .newly) (now .alarms) (now .sum) (now .inv) (c .loop-test .left)
 
 pub retire-spec : {M : Type 1} → statement M
 retire-spec =
@@ -155,6 +172,7 @@ retire-spec =
     mul-marked
     slice-write-marked
     add-newly
+    add-alarms
     mul-after
     after-requires
     bytes-requires
