@@ -24,3 +24,5 @@ pub mod Apart
 pub mod Settled
 pub mod Numbered
 pub mod Seventeen
+pub mod FalseAlarms
+pub mod Ledger
