@@ -84,6 +84,7 @@ impl Sacks {
     }
 }
 
+#[derive(Default)]
 pub struct Nacks {
     pub psn: Vec<u32>,
     pub reason: Vec<u8>,
@@ -93,7 +94,7 @@ pub struct Nacks {
 enum Work {
     Receives { before: Packets, then: Packets },
     Sends { then: Vec<u16> },
-    Sacks { sent: Vec<u16>, before: Sacks, then: Sacks },
+    Sacks { sent: Vec<u16>, marked: Nacks, before: Sacks, then: Sacks },
     Nacks { sent: Vec<u16>, then: Nacks },
     Resends { sent: Vec<u16>, before: Nacks },
 }
@@ -167,7 +168,7 @@ impl Start {
     }
 
     fn sacks(&mut self, then: Sacks) -> Work {
-        Work::Sacks { sent: self.sent(), before: Sacks::default(), then }
+        Work::Sacks { sent: self.sent(), marked: Nacks::default(), before: Sacks::default(), then }
     }
 
     /// A NACK for each packet of the room, in any order.
@@ -178,7 +179,7 @@ impl Start {
 }
 
 /// The lines of the table.
-const EVENTS: [(&str, fn(&mut Start) -> Work); 12] = [
+const EVENTS: [(&str, fn(&mut Start) -> Work); 13] = [
     ("arrival in order", |s| s.receives(vec![], s.psn(0..ARRIVALS))),
     ("arrival, shuffled within the room", |s| {
         let then = s.shuffled(s.psn(0..ARRIVALS));
@@ -208,7 +209,11 @@ const EVENTS: [(&str, fn(&mut Start) -> Work); 12] = [
     }),
     ("SACK that comes late", |s| {
         let (before, then) = (s.replies(s.whole()).last(), s.replies(s.whole()));
-        Work::Sacks { sent: s.sent(), before, then }
+        Work::Sacks { sent: s.sent(), marked: Nacks::default(), before, then }
+    }),
+    ("SACK in order, of marked packets", |s| {
+        let then = s.replies(s.whole());
+        Work::Sacks { sent: s.sent(), marked: s.nacks(), before: Sacks::default(), then }
     }),
     ("SACK of a whole window", |s| {
         let then = s.replies(s.whole()).last();
@@ -268,8 +273,9 @@ impl Lane {
                 Record::Receiver(receiver)
             }
             Work::Sends { .. } => Record::Sender(C::sender(room, first)),
-            Work::Sacks { sent, before, .. } => {
+            Work::Sacks { sent, marked, before, .. } => {
                 let mut sender = sender(sent, out);
+                C::nacks(&mut sender, marked, out);
                 C::sacks(&mut sender, before, out);
                 Record::Sender(sender)
             }

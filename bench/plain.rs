@@ -65,7 +65,7 @@ enum Answer {
     Sent(u32),
     Acked(Verdict, Sack),
     Nacked(Verdict, Nack),
-    Retired { newly: u32, place: u32, held: u32 },
+    Retired { newly: u32, place: u32, held: u32, alarms: u32 },
     Marked(u8),
     Resent(u32),
 }
@@ -85,7 +85,7 @@ fn packed(answer: Answer) -> [u64; 4] {
             let first = 5 | (v as u64) << 8 | (n.rtx as u64) << 16 | (n.reason as u64) << 24;
             [first, n.psn as u64, 0, pair(0, n.entropy)]
         }
-        Answer::Retired { newly, place, held } => [6, pair(newly, place), held as u64, 0],
+        Answer::Retired { newly, place, held, alarms } => [6, pair(newly, place), held as u64, alarms as u64],
         Answer::Marked(many) => [7 | (many as u64) << 8, 0, 0, 0],
         Answer::Resent(psn) => [9, psn as u64, 0, 0],
     }
@@ -257,18 +257,18 @@ impl Sender {
         Answer::Sent(psn)
     }
 
-    /// The bits named in a word are retired; how many are new.
+    /// The bits named in a word are retired; how many are new, and how many of these were marked.
     #[inline(always)]
-    fn retire(&mut self, j: usize, named: u64) -> u32 {
+    fn retire(&mut self, j: usize, named: u64) -> (u32, u32) {
         let mut fresh = named & !self.retired[j];
-        let newly = fresh.count_ones();
+        let counted = (fresh.count_ones(), (fresh & self.marked[j]).count_ones());
         self.retired[j] |= named;
         self.marked[j] &= !named;
         while fresh != 0 {
             self.held -= self.sizes[64 * j + fresh.trailing_zeros() as usize] as u32;
             fresh &= fresh - 1;
         }
-        newly
+        counted
     }
 
     #[inline(always)]
@@ -296,13 +296,17 @@ impl Sender {
         if bitmap & low(far) & !low(to) != 0 {
             return Answer::Refused(8);
         }
-        let mut newly = 0;
+        let (mut newly, mut alarms) = (0, 0);
+        let mut count = |(new, marked): (u32, u32)| {
+            newly += new;
+            alarms += marked;
+        };
         if upto <= n {
             let (mut psn, mut left) = (self.place + 1, upto);
             while left > 0 {
                 let (j, b) = spot(psn);
                 let many = left.min(64 - b);
-                newly += self.retire(j, low(many) << b);
+                count(self.retire(j, low(many) << b));
                 psn += many;
                 left -= many;
             }
@@ -310,9 +314,9 @@ impl Sender {
         let named = bitmap & low(to) & !low(from);
         if named != 0 {
             let (j, b) = spot(base);
-            newly += self.retire(j, named << b);
+            count(self.retire(j, named << b));
             if b > 0 && named >> (64 - b) != 0 {
-                newly += self.retire((j + 1) % WORDS, named >> (64 - b));
+                count(self.retire((j + 1) % WORDS, named >> (64 - b)));
             }
         }
         let (j, b) = spot(self.place + 1);
@@ -321,7 +325,7 @@ impl Sender {
             self.place = (self.place + by) % TURN;
             self.outstanding -= by;
         }
-        Answer::Retired { newly, place: self.place, held: self.held }
+        Answer::Retired { newly, place: self.place, held: self.held, alarms }
     }
 
     #[inline(always)]

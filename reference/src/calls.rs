@@ -12,6 +12,7 @@
 //!     8 count   a receiver started at PSN a with its count set to b; then an arrival with size c, and flags, entropy and PSN of the fields
 //!     9 lent    the same over lent words
 
+use crate::alarms;
 use crate::generate::{edge, Chance};
 use crate::log::{self, Record, Slot, KINDS, LONGEST, PSN_WIDTH, SLOTS};
 use crate::side::{contradiction, distance, on, set_bits, Outcome, Receiver, CONTRADICTIONS, HALF, TURN, WORDS};
@@ -53,6 +54,7 @@ pub fn bytes(calls: &[Call]) -> Vec<u8> {
 pub struct Library {
     slots: Vec<Slot>,
     bytes: Vec<u8>,
+    marks: alarms::Followed,
 }
 
 /// The kind and the fields of a call's event, if each number fits: a PSN 32 bits, another field its width.
@@ -137,7 +139,7 @@ fn place_class(place: u64, end: u64) -> &'static str {
 
 impl Library {
     pub fn new() -> Self {
-        Library { slots: vec![None; TABLE], bytes: vec![0; BYTES] }
+        Library { slots: vec![None; TABLE], bytes: vec![0; BYTES], marks: alarms::Followed::default() }
     }
 
     /// The line of a call.
@@ -206,6 +208,9 @@ impl Library {
         let outcome = log::event(table, slot as usize, kind, &fields);
         if kind == 5 {
             judged_bits(stood, &fields, &outcome, seen);
+        }
+        for way in self.marks.event(slot, kind, &fields, &outcome) {
+            saw(seen, alarms::WAYS[way].into());
         }
         let past = matches!(outcome, Err(1));
         saw(seen, format!("event on slot {} {}", slot_class(slot), if past { "refused 1" } else { "let in" }));
@@ -373,7 +378,7 @@ pub fn reachable() -> Vec<String> {
             add(format!("write a {name} refused 5 before 16"));
         }
     }
-    CONTRADICTIONS.iter().for_each(|way| add(way.to_string()));
+    CONTRADICTIONS.iter().chain(&alarms::WAYS).for_each(|way| add(way.to_string()));
     for (i, (_, name)) in EDGES.iter().enumerate() {
         add(format!("one bit, for {name}: {}", if [3, 4].contains(&i) { "not 17" } else { "17" }));
     }
@@ -567,6 +572,26 @@ fn an_event(chance: &mut Chance, script: &mut Script, first: u32) {
     }
 }
 
+/// Timers run out too early in slot 0, where all of a room is outstanding from `first` on: packets are marked, some are resent, and a SACK names
+/// some of either by cack and by its bits. Then the same once more, behind what it has named by cack.
+fn too_early(chance: &mut Chance, script: &mut Script, first: u32, room: u64) {
+    let mut from = 0;
+    for _ in 0..2 {
+        for _ in 0..4 + chance.below(28) {
+            script.event(20, 0, 7, &[on(first, (from + chance.below(room - from)) as u32).into()]);
+            if chance.one_in(3) {
+                script.event(20, 0, 8, &[]);
+            }
+        }
+        // cack covers some, and bits may be set from cack + 2 on
+        from += 1 + chance.below(room / 2 - 1);
+        let left = room - from - 1;
+        let mask = if left >= 64 { u64::MAX } else { (1 << left) - 1 };
+        let [cack, base] = [from - 1, from + 1].map(|by| on(first, by as u32).into());
+        script.event(20, 0, 5, &[cack, base, chance.next() & mask]);
+    }
+}
+
 /// A log is put together in the bytes, by writes and pokes, and read.
 fn a_log(chance: &mut Chance, script: &mut Script, first: u32) {
     match chance.below(8) {
@@ -619,13 +644,15 @@ pub fn sequence(seed: u64, i: usize) -> Vec<Call> {
         _ => chance.below(TURN.into()) as u32,
     };
     let mut script = Script { library: Library::new(), calls: Vec::new() };
-    // one in eight sends so much that its room is full
+    // one in eight sends so much that its room is full, and marks much of it
     if chance.one_in(8) {
         let room = chance.pick(&[64, 128]);
         script.event(20, 0, 1, &[room, first.into(), room, first.into()]);
         for _ in 0..room + chance.below(2) {
             script.event(20, 0, 3, &[48 + chance.below(9169)]);
         }
+        script.call([3, 0, 0, 0, 0, 0, 0, 0]);
+        too_early(chance, &mut script, first, room);
         script.call([3, 0, 0, 0, 0, 0, 0, 0]);
     }
     for _ in 0..45 {

@@ -16,6 +16,7 @@
 //! compare and calls fail where something that can be reached was not, so too few do not pass. Its status is 1 where something differs, the
 //! words make no log or the log that is told was refused, and 2 where the input cannot be read or the command does not answer.
 
+mod alarms;
 mod calls;
 mod generate;
 mod log;
@@ -149,7 +150,7 @@ const REACHABLE: &[(usize, &[u64])] = &[
     (8, &[0, 1, 2, 9]),
 ];
 
-/// How often each (kind, answer) pair was seen; and under kinds that no record has, each of RARE.
+/// How often each (kind, answer) pair was seen; and under kinds that no record has, each of `rare`.
 type Seen = BTreeMap<(usize, u64), u64>;
 
 const BUFFER: usize = 65_536;
@@ -157,28 +158,35 @@ const LONG: (usize, u64) = (usize::MAX, 0);
 const STRIDE: usize = usize::MAX - 1;
 const COUNTED: (usize, u64) = (usize::MAX - 2, 4);
 const CONTRADICTS: usize = usize::MAX - 3;
+const ALARMS: usize = usize::MAX - 4;
 
-/// What must be met at least once for so many logs: a text longer than two of the program's buffers, which it writes when they are full; a move
-/// over more than a word, of E by an arrival and of the place by a SACK; a repeat that is seen to be counted; and a SACK that contradicts itself
-/// in each of the ways of `side::contradiction`.
+/// For so many logs, each of `rare` must be met at least once.
 const ONE_IN: u64 = 200;
-const RARE: [((usize, u64), &str); 9] = [
-    (LONG, "texts of more than two buffers"),
-    ((STRIDE, 4), "arrivals that move E by more than 64"),
-    ((STRIDE, 5), "SACKs that move the place by more than 64"),
-    (COUNTED, "known arrivals that raise count / 256"),
-    ((CONTRADICTS, 0), side::CONTRADICTIONS[0]),
-    ((CONTRADICTS, 1), side::CONTRADICTIONS[1]),
-    ((CONTRADICTS, 2), side::CONTRADICTIONS[2]),
-    ((CONTRADICTS, 3), side::CONTRADICTIONS[3]),
-    ((CONTRADICTS, 4), side::CONTRADICTIONS[4]),
-];
+
+/// A text longer than two of the program's buffers, which it writes when they are full; a move over more than a word, of E by an arrival and of
+/// the place by a SACK; a repeat that is seen to be counted; a SACK that contradicts itself in each of the ways of `side::contradiction`; and a
+/// SACK that meets marks in each of those of `alarms`.
+fn rare() -> Vec<((usize, u64), &'static str)> {
+    fn ways(class: usize, names: &'static [&'static str]) -> impl Iterator<Item = ((usize, u64), &'static str)> {
+        names.iter().enumerate().map(move |(way, name)| ((class, way as u64), *name))
+    }
+    let mut all = vec![
+        (LONG, "texts of more than two buffers"),
+        ((STRIDE, 4), "arrivals that move E by more than 64"),
+        ((STRIDE, 5), "SACKs that move the place by more than 64"),
+        (COUNTED, "known arrivals that raise count / 256"),
+    ];
+    all.extend(ways(CONTRADICTS, &side::CONTRADICTIONS));
+    all.extend(ways(ALARMS, &alarms::WAYS));
+    all
+}
 
 /// Has the command replay log i of a seed, which must make its records again from its own words.
 fn compare_one(i: usize, seed: u64, command: &[String], seen: &mut Seen) {
     let log = generate::log(seed, i);
     // by slot and kind, where E and the place stand: one behind; and by slot the count / 256 of the last SACK, and the last PSN sent
     let (mut ends, mut counts, mut sent) = (BTreeMap::new(), BTreeMap::new(), BTreeMap::new());
+    let mut marks = alarms::Followed::default();
     let last = log::replay(&log, |record, outcome| {
         let answer = match outcome {
             Err(number) => u64::from(*number),
@@ -186,6 +194,9 @@ fn compare_one(i: usize, seed: u64, command: &[String], seen: &mut Seen) {
             Ok(_) => 0,
         };
         *seen.entry((record.kind, answer)).or_default() += 1;
+        for way in marks.event(record.slot.into(), record.kind, &record.fields, outcome) {
+            *seen.entry((ALARMS, way as u64)).or_default() += 1;
+        }
         let turn = u64::from(side::TURN);
         match (record.kind, outcome) {
             (1, Ok(_)) => {
@@ -267,12 +278,13 @@ fn told(command: &[String]) {
 /// Compares the logs, and tells which answers they had.
 fn compare(from: usize, count: usize, seed: u64, command: &[String]) {
     let mut seen = on_all(from..from + count, |i, seen| compare_one(i, seed, command, seen));
-    let rare = RARE.map(|(what, name)| (seen.remove(&what).unwrap_or(0), name));
+    let rare: Vec<(u64, &str)> = rare().into_iter().map(|(what, name)| (seen.remove(&what).unwrap_or(0), name)).collect();
     for (kind, answers) in REACHABLE {
         let row: Vec<String> = answers.iter().map(|a| format!("{a}: {}", seen.get(&(*kind, *a)).unwrap_or(&0))).collect();
         println!("kind {kind}  {}", row.join("  "));
     }
-    println!("{}", rare.map(|(times, name)| format!("{name}: {times}")).join("; "));
+    let met: Vec<String> = rare.iter().map(|(times, name)| format!("{name}: {times}")).collect();
+    println!("{}", met.join("; "));
     for (kind, answers) in REACHABLE {
         for answer in *answers {
             if !seen.contains_key(&(*kind, *answer)) {

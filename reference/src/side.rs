@@ -1,4 +1,4 @@
-//! The two sides of a connection, from document 01 with requests No. 3 and 4 of document 02: packet numbers are kept in ordered maps and sets, one
+//! The two sides of a connection, from document 01 with requests No. 3, 4 and 8 of document 02: packet numbers are kept in ordered maps and sets, one
 //! entry each.
 
 use std::collections::{BTreeMap, BTreeSet};
@@ -236,6 +236,8 @@ impl Sender {
         for psn in set_bits(base, bitmap) {
             named.extend(self.find(psn)?);
         }
+        // No. 8: marked before, and retired by this SACK
+        let alarms = named.iter().filter(|packet| self.packets[packet].marked).count() as u64;
         let mut newly = 0;
         for packet in named {
             let sent = self.packets.get_mut(&packet).expect("an outstanding packet has an entry");
@@ -248,7 +250,7 @@ impl Sender {
             self.packets.remove(&self.retired_to);
             self.place = on(self.place, 1);
         }
-        done(vec![newly, self.place.into(), self.held()])
+        done(vec![newly, self.place.into(), self.held(), alarms])
     }
 
     pub fn timer(&mut self, psn: u32) -> Outcome {

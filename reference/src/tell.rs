@@ -26,7 +26,7 @@ const ANSWERS: [Named; 8] = [
     ("closed", &[]),
     ("sent", &["psn"]),
     ("arrived", &[]),
-    ("retired", &["newly", "place", "held"]),
+    ("retired", &["newly", "place", "held", "false_alarms"]),
     ("marked", &["newly"]),
     ("marked", &["newly"]),
     ("resent", &["psn"]),
