@@ -62,3 +62,20 @@ distance-on a p k =
     let z = turn - a % turn in
     let e : p + z + k ≡ p + k + z = omega arith in
     turned (p + z) k ∙ ap (λ (x : ℕ). x % turn) e ∙ sym (turned (p + k) z)
+
+-- from a number to another, and back
+returned : (b a : ℕ) → after b (distance b a) ≡ a % turn
+unfolding after distance
+returned b a = omega arith
+
+round : (a : ℕ) → distance a (a % turn) ≡ 0
+unfolding distance
+round a = omega arith
+
+pub distance-back : (a b : ℕ) → (distance a b + distance b a) % turn ≡ 0
+distance-back a b = distance-on a b (distance b a) ∙ ap (distance a) (returned b a) ∙ round a
+
+-- from the number after a
+pub distance-next : (a b : ℕ) → distance a b ≡ (distance (after a 1) b + 1) % turn
+unfolding after distance
+distance-next a b = omega arith

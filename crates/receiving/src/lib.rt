@@ -1,10 +1,6 @@
 // The receiving side over lent words. They hold the packet numbers from E's own block of 64 on: bit b of word j is number 64 j + b of that block and
 // those after it. All before E are accepted, so their bits are set; no bit past the window is.
 ghost use mathlib.Core.Path.{_≡_};
-ghost use mathlib.Core.Bool.{true};
-ghost use Prim.Native.Nat.{ℕ, _+_, _<_};
-ghost use Rattle.lists.specs.Index.{First};
-ghost use Rattle.row.specs.Row.{at, is-clear};
 ghost use Rattle.rules.specs.Receiver.{nack-of, reason-of, sack-of, verdict};
 ghost use Rattle.rules.specs.declared.Verdict.the-variants.{Fresh};
 ghost use Rattle.receiving.specs.Lent.{lent, meaning, Started, Sound, Accepts, Acks, Arrives};
@@ -62,21 +58,6 @@ fn nack(v: Verdict, a: Arrival) -> Nack
     }
 }
 
-// The lowest clear bit, n at the most: all below E's bit s are set, and s itself just where E's own packet came. Mostly the next one is clear, and a
-// test that is foreseen costs less than a count that must be waited for.
-fn lowest_open(words: &[u64], s: u32, own: bool, n: u32) -> u32
-    requires { ⌜ (s + 1 < n) × ((p : ℕ) → p < s → at (now words) p ≡ true) × (at (now words) s ≡ own) ⌝ }
-    ensures { λ r. ⌜ First (is-clear (now (words .entry))) n r ⌝ }
-{
-    if !own {
-        return s;
-    }
-    if !row::test(words, s + 1) {
-        return s + 1;
-    }
-    row::run(words, n)
-}
-
 impl Head {
     // How an arrival is judged.
     fn judge(self, words: &[u64], a: Arrival) -> Verdict
@@ -120,7 +101,7 @@ impl Head {
         let s = expected.0 % 64;
         let d = expected.distance(psn);
         row::set(words, s + d);
-        let t = lowest_open(words, s, d == 0, s + room);
+        let t = row::run_from(words, s, d == 0, s + room);
         row::shed(words, (t / 64) as usize);
         Head {
             room,

@@ -1,6 +1,7 @@
 // A row of 64-bit words, any number of them, by its bits. A bit past the end reads clear and is not written.
 ghost use mathlib.Core.Path.{_≡_};
-ghost use Prim.Native.Nat.{_+_, _-_, _*_};
+ghost use mathlib.Core.Bool.{true};
+ghost use Prim.Native.Nat.{ℕ, _+_, _-_, _*_, _≤_, _<_};
 ghost use lib.ListN.{getD};
 ghost use Rattle.lists.specs.Index.{First};
 ghost use Rattle.word.specs.Word.{Bits, in-range};
@@ -84,6 +85,24 @@ pub fn run(ws: &[u64], n: u32) -> u32
         }
         p += 64;
     }
+}
+
+// The same, n at the most, of a row whose bits below s are all set, and s itself just where own says. Mostly s or the next one is clear, and a test
+// that is foreseen costs less than a count that must be waited for.
+pub fn run_from(ws: &[u64], s: u32, own: bool, n: u32) -> u32
+    requires { ⌜ (s ≤ n) × ((p : ℕ) → p < s → bit-of (now ws) p ≡ true) × (bit-of (now ws) s ≡ own) ⌝ }
+    ensures { λ r. ⌜ First (is-clear (now (ws .entry))) n r ⌝ }
+{
+    if !own {
+        return s;
+    }
+    if n <= s {
+        return n;
+    }
+    if !test(ws, s + 1) {
+        return s + 1;
+    }
+    run(ws, n)
 }
 
 // The q lowest words go, and the others move down. Where none goes, nothing is touched.

@@ -42,6 +42,12 @@ bit-odd w e = eq-eqb (w / 2 ^ 0 % 2) 1 (omega arith)
 pub bit-zero : (w : ℕ) → cond (bit-at w 0) 1 0 ≡ w % 2
 bit-zero w = two (λ d. w % 2 ≡ d → cond (bit-at w 0) 1 0 ≡ d) (λ e. rw (bit-even w e)) (λ e. rw (bit-odd w e)) (w % 2) (omega arith) refl
 
+odd : (w : ℕ) → bit-at w 0 ≡ true → w % 2 ≡ 1
+odd w e = sym (bit-zero w) ∙ ap (λ (b : Bool). cond b 1 0) e
+
+even : (w : ℕ) → bit-at w 0 ≡ false → w % 2 ≡ 0
+even w e = sym (bit-zero w) ∙ ap (λ (b : Bool). cond b 1 0) e
+
 -- two numbers with the same bits are one
 pub same-bits : (n v w : ℕ) → v < 2 ^ n → w < 2 ^ n → ((i : ℕ) → i < n → bit-at v i ≡ bit-at w i) → v ≡ w
 same-bits zero v w p q h = omega arith
@@ -178,6 +184,33 @@ first-bit zero w = record { within = omega arith; none = λ i h. absurd (omega a
 first-bit (suc n) w =
     let t = trailingZeros n (w / 2) in
     two (λ d. w % 2 ≡ d → First (bit-at w) (suc n) (under d t)) (λ e. first-even n w t e (first-bit n (w / 2))) (first-odd n w) (w % 2) (omega arith) refl
+
+-- a word that is not 0 has a set bit
+pub some-bit : (w t : ℕ) → w < 2 ^ 64 → (w ≡ 0 → ⊥) → First (bit-at w) 64 t → t < 64
+some-bit w t small n f = go (decLt t 64)
+  where
+    go : Dec (t < 64) → t < 64
+    go (yes h) = h
+    go (no h) = absurd (n (same-bits 64 w 0 small (pow-pos 64) (λ i l. f .none i (omega arith) ∙ sym (bit-none i))))
+
+-- a number and the number less 1: of the bits that are set in both, the lowest set bit t is none, and all others are
+pub bit-less : (t w i : ℕ) → bit-at w t ≡ true → ((k : ℕ) → k < t → bit-at w k ≡ false)
+    → (bit-at w i && bit-at (w - 1) i) ≡ (bit-at w i && not (eqb i t))
+bit-less zero w zero here below = ap (λ (b : Bool). bit-at w 0 && b) (bit-even (w - 1) (omega (arith, odd w here)) ∙ sym (ap not (eq-eqb 0 0 refl)))
+bit-less zero w (suc i) here below =
+    let half : (w - 1) / 2 ≡ w / 2 = omega (arith, odd w here) in
+    ap (λ (b : Bool). bit-at w (suc i) && b) (bit-suc (w - 1) i ∙ ap (λ (v : ℕ). bit-at v i) half ∙ sym (bit-suc w i))
+    ∙ both (bit-at w (suc i)) ∙ ap (λ (b : Bool). bit-at w (suc i) && not b) (sym (ne-eqb (suc i) 0 (λ e. omega arith)))
+  where
+    both : (b : Bool) → (b && b) ≡ (b && true)
+    both true = refl
+    both false = refl
+bit-less (suc t) w zero here below = rw (below 0 (omega arith))
+bit-less (suc t) w (suc i) here below =
+    let half : (w - 1) / 2 ≡ w / 2 - 1 = omega (arith, even w (below 0 (omega arith))) in
+    ap₂ (λ (a b : Bool). a && b) (bit-suc w i) (bit-suc (w - 1) i ∙ ap (λ (v : ℕ). bit-at v i) half)
+    ∙ bit-less t (w / 2) i (sym (bit-suc w t) ∙ here) (λ k l. sym (bit-suc w k) ∙ below (suc k) (omega arith))
+    ∙ ap₂ (λ (a b : Bool). a && not b) (sym (bit-suc w i)) (sym (eqb·suc-suc i t))
 
 -- the machine's count of the ones
 pub ones-total : (n w : ℕ) → w < 2 ^ n → ones w ≡ tally n (bit-at w)

@@ -1,7 +1,7 @@
 // One 64-bit word, by its bits. Every function takes any word and any number; a bit's index counts modulo 64.
 ghost use mathlib.Core.Path.{_≡_};
 ghost use mathlib.Core.Bool.{not, _&&_, _||_};
-ghost use Prim.Native.Nat.{_+_, _%_, _<_};
+ghost use Prim.Native.Nat.{ℕ, _+_, _%_, _<_};
 ghost use lib.Dec.{eqb, ltb};
 ghost use Rattle.lists.specs.Index.{First, tally};
 ghost use Rattle.word.specs.Word.{bit-at, Bits, in-range, bit-of-two, only-in};
@@ -67,6 +67,16 @@ pub fn lowest(w: u64) -> u32
     ensures { λ r. ⌜ First (bit-at w) 64 r ⌝ }
 {
     u64::trailing_zeros(w)
+}
+
+// The word without its lowest set bit: 0 where none is set.
+pub fn without_lowest(w: u64) -> u64
+    ensures { λ r. ⌜ ((t : ℕ) → First (bit-at w) 64 t → Bits r (λ i. bit-at w i && not (eqb i t))) ⌝ }
+{
+    if w == 0 {
+        return 0;
+    }
+    w & (w - 1)
 }
 
 // How many bits are set.

@@ -28,13 +28,13 @@ add-set c = omega (arith, inside (c .before), room-numbers (entry (c .before) .a
 set-requires : tie.Need-set-requires
 set-requires c κs = search needs
 
-add-lowest-open : tie.Need-add-lowest-open
-add-lowest-open c =
+add-run-from : tie.Need-add-run-from
+add-run-from c =
     let e = entry (c .before .before .before .before .before) in
     omega (arith, room-numbers (e .args .self .room) (e .pre .0 .room-good))
 
-lowest-open-requires : tie.Need-lowest-open-requires
-lowest-open-requires c κs =
+run-from-requires : tie.Need-run-from-requires
+run-from-requires c κs =
     let set = c .before .before .before in
     let d = set .before .before in
     let e = entry d in (
@@ -56,7 +56,7 @@ sub-after c =
     let d = set .before .before in
     let e = entry d in
     past-offset (lent-at e) (e .pre .0) (d .distance .result) (inside d) (set .set .last .0) (set .set .ensures)
-    (found .lowest-open .result) (found .lowest-open .ensures)
+    (found .run-from .result) (found .run-from .ensures)
 
 after-requires : tie.Need-after-requires
 after-requires c κs = search needs
@@ -75,10 +75,10 @@ returns c =
     record {
       started =
           accept-started (lent-at e) (e .pre .0) (d .distance .result) (inside d) (set .set .last .0) (set .set .ensures)
-          (found .lowest-open .result) (found .lowest-open .ensures) (shed .shed .last .0) (shed .shed .ensures) (moved .result) (moved .ensures);
+          (found .run-from .result) (found .run-from .ensures) (shed .shed .last .0) (shed .shed .ensures) (moved .result) (moved .ensures);
       accepted-is =
           accept-means (lent-at e) (e .pre .0) (d .distance .result) (inside d) (set .set .last .0) (set .set .ensures)
-          (found .lowest-open .result) (found .lowest-open .ensures) (shed .shed .last .0) (shed .shed .ensures) (moved .result) (moved .ensures)
+          (found .run-from .result) (found .run-from .ensures) (shed .shed .last .0) (shed .shed .ensures) (moved .result) (moved .ensures)
           (e .args .a) (d .distance .ensures);
     }
 
@@ -89,8 +89,8 @@ accept-spec =
     distance-requires
     add-set
     set-requires
-    add-lowest-open
-    lowest-open-requires
+    add-run-from
+    run-from-requires
     cast-shed
     shed-requires
     sub-after
