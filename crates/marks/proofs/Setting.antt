@@ -1,11 +1,15 @@
--- A mark set, or not: by the tests that come before it. Assumes nothing.
+-- A mark set, or not: by the test that comes before it. Assumes nothing.
 use mathlib.Core.Path.{_≡_, refl, sym, ap, ap₂, _∙_}
-use mathlib.Core.Bool.{Bool, true, false, not, cond, _&&_, _||_, or-false, and-false}
+use mathlib.Core.Bool.{Bool, true, false, not, cond, _&&_, _||_, or-false}
 use mathlib.Core.List.{List}
-use Prim.Native.Nat.{ℕ, _+_, _≤_, _<_}
+use Prim.Native.Nat.{ℕ, _+_, _/_, _%_, _≤_, _<_}
 use lib.Dec.{eqb, ltb}
+use lib.ListN.{getD}
+use lib.Bits.{bitOr}
 use borrow.Author.Tests.{lt-ltb, le-ltb}
 use Rattle.psn.specs.Psn.{after, distance}
+use Rattle.word.specs.Word.{bit-at}
+use Rattle.word.proofs.Bits.{bit-or}
 use Rattle.row.specs.Row.{at, bits, Becomes, with-bit}
 use Rattle.marks.specs.Marks.{markable, MarksBit, offset, bit-of, markable-psn, Marks}
 
@@ -26,19 +30,27 @@ row-kept : (marked : List ℕ) (p : ℕ) (may : Bool) → may ≡ false → Beco
 row-kept marked p may e = record { long = refl; bits-are = λ k. sym (ap (bit-then marked k p) e ∙ kept (at marked k) (eqb k p) (ltb k (bits marked))) }
 
 -- ---- a bit
+neither : (a b : Bool) → (not a && not b) ≡ not (a || b)
+neither true b = refl
+neither false b = refl
+
 module _ (retired marked : List ℕ) (p : ℕ) where
-  marks-none : markable retired marked p ≡ false → MarksBit retired marked p marked 0
-  marks-none e = record { newly-is = sym (ap (λ (b : Bool). cond b 1 0) e); marked-are = row-kept marked p (markable retired marked p) e }
+  -- the words of both rows that hold the bit, as one
+  pub joined-bit : bit-at (bitOr (getD retired (p / 64) 0) (getD marked (p / 64) 0)) (p % 64) ≡ (at retired p || at marked p)
+  unfolding at
+  joined-bit = bit-or (getD retired (p / 64) 0) (getD marked (p / 64) 0) (p % 64)
 
-  pub marks-retired : at retired p ≡ true → MarksBit retired marked p marked 0
-  marks-retired e = marks-none (ap (λ (b : Bool). not b && not (at marked p)) e)
+  may-bit : (b : Bool) → (at retired p || at marked p) ≡ b → markable retired marked p ≡ not b
+  may-bit b e = neither (at retired p) (at marked p) ∙ ap not e
 
-  pub marks-again : at marked p ≡ true → MarksBit retired marked p marked 0
-  marks-again e = marks-none (ap (λ (b : Bool). not (at retired p) && not b) e ∙ and-false (not (at retired p)))
+  pub marks-none : (at retired p || at marked p) ≡ true → MarksBit retired marked p marked 0
+  marks-none e =
+      let none : markable retired marked p ≡ false = may-bit true e in
+      record { newly-is = sym (ap (λ (b : Bool). cond b 1 0) none); marked-are = row-kept marked p (markable retired marked p) none }
 
-  pub marks-new : at retired p ≡ false → at marked p ≡ false → (ws : List ℕ) → Becomes marked ws (with-bit marked p) → MarksBit retired marked p ws 1
-  marks-new r m ws set =
-      let may : markable retired marked p ≡ true = rw (r, m) in
+  pub marks-new : (at retired p || at marked p) ≡ false → (ws : List ℕ) → Becomes marked ws (with-bit marked p) → MarksBit retired marked p ws 1
+  marks-new e ws set =
+      let may : markable retired marked p ≡ true = may-bit false e in
       record {
         newly-is = sym (ap (λ (b : Bool). cond b 1 0) may);
         marked-are = record {

@@ -6,10 +6,8 @@ use psn::Psn;
 fn mark(retired: &[u64], marked: &mut [u64], p: u32) -> u8
     ensures { λ r. ⌜ MarksBit (now (retired .entry)) (now (marked .entry)) p (now (marked .exit)) r ⌝ }
 {
-    if row::test(retired, p) {
-        return 0;
-    }
-    if row::test(marked, p) {
+    let j = (p / 64) as usize;
+    if word::test(row::word_at(retired, j) | row::word_at(marked, j), p) {
         return 0;
     }
     row::set(marked, p);
@@ -34,8 +32,8 @@ pub enum Found {
     Nothing,
 }
 
-// The marked packet number nearest after the place, among the n after it. The search goes over words and bits, steps over a word without
-// a mark, and stops at the first found, which is its value.
+// The marked packet number nearest after the place, among the n after it. The search goes over words and bits: from bit p on it looks for the
+// lowest mark of the word, steps over a word that has none, and stops at the first found, which is its value.
 fn nearest(marked: &[u64], place: Psn, n: u32) -> Found
     requires { ⌜ Reach (place .0) n ⌝ }
     ensures { λ r. ⌜ Finds (now (marked .entry)) (place .0) n r ⌝ }
@@ -46,15 +44,14 @@ fn nearest(marked: &[u64], place: Psn, n: u32) -> Found
         if s + n <= p {
             return Found::Nothing;
         }
-        let w = row::word_at(marked, (p / 64) as usize);
-        if w == 0 {
-            p = 64 * (p / 64) + 64;
-        } else {
-            if word::test(w, p) {
-                break place.after(1 + (p - s));
+        let t = word::lowest(row::word_at(marked, (p / 64) as usize) >> (p % 64));
+        if t < 64 {
+            if s + n <= p + t {
+                return Found::Nothing;
             }
-            p += 1;
+            break place.after(1 + (p + t - s));
         }
+        p = 64 * (p / 64) + 64;
     };
     Found::Marked(psn)
 }

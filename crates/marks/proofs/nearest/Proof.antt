@@ -1,13 +1,14 @@
 -- `marks::nearest` meets its contract: no bit that the search has passed is marked, so what it stops at is the nearest. Assumes nothing.
-use mathlib.Core.Path.{_≡_, refl, sym, ap, _∙_}
+use mathlib.Core.Path.{ap, subst}
 use mathlib.Core.List.{List}
-use Prim.Native.Nat.{ℕ, _+_, _-_, _%_, _≤_}
+use Prim.Native.Nat.{ℕ, _+_, _-_, _/_, _%_, _^_, _≤_, _<_}
 use native.Mathlib.Omega.{arith}
+use lib.ListN.{getD}
+use Rattle.lists.specs.Index.{First}
 use Rattle.word.specs.Word.{bit-at}
-use Rattle.row.specs.Row.{at}
 use Rattle.rules.specs.Numbers.{psn}
 use Rattle.marks.specs.Marks.{Finds}
-use Rattle.marks.proofs.Search.{Passed, passed-bit, passed-word, finds-none, finds-first}
+use Rattle.marks.proofs.Search.{Passed, rest-of, passed-word, passed-low, marked-low, finds-none, finds-first}
 use borrow.Author.Needs.{needs}
 use Rattle.marks.proofs.nearest.Statement.{statement}
 use Rattle.marks.proofs.nearest.Tie as tie
@@ -18,17 +19,28 @@ Inv-loop marked place n s p₀ p = (s ≤ p) × Passed marked s p
 abbrev μ-loop : tie.MeasureT-loop
 μ-loop marked place n s p₀ p = s + n - p
 
--- the row of marks, and the bit that the search stands at
-abbrev row-of : tie.After-test Inv-loop μ-loop → List ℕ
-row-of c = c .before .before .before .before .before .before .before .args .marked .now
+-- the call, the row, its bit that the search stands at, and the lowest mark in the word from there on
+abbrev start : tie.After-lowest Inv-loop μ-loop → tie.Start Inv-loop μ-loop
+start c = c .before .before .before .before .before .before
 
-abbrev stands : tie.After-test Inv-loop μ-loop → ℕ
-stands c = c .before .before .before .before .loop .p
+abbrev row-of : tie.After-lowest Inv-loop μ-loop → List ℕ
+row-of c = start c .args .marked .now
 
--- the bit that is tested is the row's
-tested : (c : tie.After-test Inv-loop μ-loop) → c .test .result ≡ at (row-of c) (stands c)
-unfolding at
-tested c = c .test .ensures ∙ ap (λ (w : ℕ). bit-at w (stands c % 64)) (c .before .before .word-at .ensures)
+abbrev first-of : tie.After-lowest Inv-loop μ-loop → ℕ
+first-of c = (start c .args .place .0 + 1) % 64
+
+abbrev stands : tie.After-lowest Inv-loop μ-loop → ℕ
+stands c = c .before .before .before .loop .p
+
+lowest : (c : tie.After-lowest Inv-loop μ-loop) → First (bit-at (rest-of (row-of c) (stands c))) 64 (c .lowest .result)
+lowest c = subst (λ (w : ℕ). First (bit-at (w / 2 ^ (stands c % 64))) 64 (c .lowest .result)) (c .before .word-at .ensures) (c .lowest .ensures)
+
+-- the word fits
+small : (c : tie.After-lowest Inv-loop μ-loop) → getD (row-of c) (stands c / 64) 0 < 2 ^ 64
+small c = c .before .before .before .before .before .shared-slice-known .given (stands c / 64) .fits
+
+passed : (c : tie.After-lowest Inv-loop μ-loop) → c .lowest .result < 64 → Passed (row-of c) (first-of c) (stands c + c .lowest .result)
+passed c = passed-low (row-of c) (first-of c) (stands c) (c .lowest .result) (c .before .before .before .loop .inv .1) (lowest c) (small c)
 
 add-s : tie.Need-add-s Inv-loop μ-loop
 add-s c = omega (arith, c .before .before .pre .place-low)
@@ -52,57 +64,68 @@ cast-word-at c = search needs
 word-at-requires : tie.Need-word-at-requires Inv-loop μ-loop
 word-at-requires c κs = search needs
 
+cast-lowest : tie.Need-cast-lowest Inv-loop μ-loop
+cast-lowest c = search needs
+
+shr-lowest : tie.Need-shr-lowest Inv-loop μ-loop
+shr-lowest c = search needs
+
+lowest-requires : tie.Need-lowest-requires Inv-loop μ-loop
+lowest-requires c κs = search needs
+
+add-if3 : tie.Need-add-if3 Inv-loop μ-loop
+add-if3 c = omega (arith, start (c .before) .pre .few)
+
+add-if3-2 : tie.Need-add-if3-2 Inv-loop μ-loop
+add-if3-2 c = omega (arith, start (c .before) .pre .few)
+
+returns-2 : tie.Need-returns-2 Inv-loop μ-loop
+unfolding Finds
+returns-2 c =
+    let d = c .before .before in
+    finds-none (row-of d) (first-of d) (stands d + d .lowest .result) (passed d (c .before .if2 .taken)) (start d .args .n) (c .if3 .taken)
+
+add-after : tie.Need-add-after Inv-loop μ-loop
+add-after c = omega (arith, start (c .before .before) .pre .few)
+
+sub-after : tie.Need-sub-after Inv-loop μ-loop
+sub-after c = search needs
+
+add-after-2 : tie.Need-add-after-2 Inv-loop μ-loop
+add-after-2 c = omega (arith, start (c .before .before) .pre .few)
+
+after-requires : tie.Need-after-requires Inv-loop μ-loop
+after-requires c κs = search needs
+
 mul-p : tie.Need-mul-p Inv-loop μ-loop
-mul-p c = omega (arith, c .before .before .before .before .before .before .pre .few)
+mul-p c = omega (arith, start (c .before) .pre .few)
 
 add-p : tie.Need-add-p Inv-loop μ-loop
-add-p c = omega (arith, c .before .before .before .before .before .before .pre .few)
+add-p c = omega (arith, start (c .before) .pre .few)
 
 loop-less : tie.Need-loop-less Inv-loop μ-loop
 loop-less c = search needs
 
 loop-again : tie.Need-loop-again Inv-loop μ-loop
 loop-again c =
-    let l = c .before .before .before .loop in
-    let marked = c .before .before .before .before .before .before .args .marked .now in
-    (omega arith, passed-word marked _ (l .p) (l .inv .1) (sym (c .before .word-at .ensures) ∙ c .if2 .taken))
+    let d = c .before in
+    let none = d .before .before .before .loop .inv .1 in
+    (omega arith, passed-word (row-of d) (first-of d) (stands d) (d .lowest .result) none (lowest d) (omega arith))
 
-test-requires : tie.Need-test-requires Inv-loop μ-loop
-test-requires c κs = search needs
-
-sub-after : tie.Need-sub-after Inv-loop μ-loop
-sub-after c = search needs
-
-add-after : tie.Need-add-after Inv-loop μ-loop
-add-after c = search needs
-
-after-requires : tie.Need-after-requires Inv-loop μ-loop
-after-requires c κs = search needs
-
-add-p-2 : tie.Need-add-p-2 Inv-loop μ-loop
-add-p-2 c = omega (arith, c .before .before .before .before .before .before .before .before .pre .few)
-
-loop-less-2 : tie.Need-loop-less-2 Inv-loop μ-loop
-loop-less-2 c = search needs
-
-loop-again-2 : tie.Need-loop-again-2 Inv-loop μ-loop
-loop-again-2 c =
-    let l = c .before .before .before .before .before .loop in
-    (omega arith, passed-bit (row-of (c .before)) _ (l .p) (l .inv .1) (sym (tested (c .before)) ∙ c .if3 .left))
-
-returns-2 : tie.Need-returns-2 Inv-loop μ-loop
+returns-3 : tie.Need-returns-3 Inv-loop μ-loop
 unfolding Finds
-returns-2 c =
+returns-3 c =
     let found = c .before in
-    let turn = found .before .before .before .before in
-    let l = turn .before .loop in
-    let entry = turn .before .before .before .before in
-    let marked = entry .args .marked .now in
-    let n = entry .args .n in
-    let s = (entry .args .place .0 + 1) % 64 in
-    let here = sym (tested (found .before)) ∙ found .if3 .taken in
-    let first = finds-first marked s (l .p) (l .inv .1) n (l .inv .0) (turn .if1 .left) here in
-    (l .p - s, omega (arith, turn .if1 .left, l .inv .0), first, ap psn (c .after .ensures))
+    let d = found .before .before in
+    let p = stands d in
+    let s = first-of d in
+    let t = d .lowest .result in
+    let n = start d .args .n in
+    let l = d .before .before .before .loop in
+    let in-word = found .before .if2 .taken in
+    let here = marked-low (row-of d) s p t (l .inv .1) (lowest d) (small d) in-word in
+    let first = finds-first (row-of d) s (p + t) (passed d in-word) n (omega (arith, l .inv .0)) (omega (arith, found .if3 .left)) here in
+    (p + t - s, omega (arith, found .if3 .left, l .inv .0), first, ap psn (c .after .ensures))
 
 pub nearest-spec : {M : Type 1} → statement M
 nearest-spec =
@@ -116,15 +139,18 @@ nearest-spec =
     returns
     cast-word-at
     word-at-requires
+    cast-lowest
+    shr-lowest
+    lowest-requires
+    add-if3
+    add-if3-2
+    returns-2
+    add-after
+    sub-after
+    add-after-2
+    after-requires
     mul-p
     add-p
     loop-less
     loop-again
-    test-requires
-    sub-after
-    add-after
-    after-requires
-    add-p-2
-    loop-less-2
-    loop-again-2
-    returns-2)
+    returns-3)
