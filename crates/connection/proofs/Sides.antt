@@ -22,6 +22,7 @@ use Rattle.rules.specs.declared.Sending.{Sending}
 use Rattle.rules.proofs.Rooms.{room-sending, room-receiving, unused-sending, unused-receiving}
 use Rattle.lists.specs.Index.{table}
 use Rattle.lists.proofs.Index.{length-table}
+use Rattle.sending.specs.Lent as rows
 use Rattle.sender.specs.declared.Sender.{Sender}
 use Rattle.sender.specs.declared.Stepped as sending
 use Rattle.sender.specs.Record as sender
@@ -35,7 +36,7 @@ use Rattle.connection.specs.Record.{meaning, empty, Sound, Steps, sent-b
 
 -- ---- the record of no connection means the rules' own
 pub empty-means : meaning empty ≡ rule.empty
-unfolding meaning sender.meaning lent.meaning table
+unfolding meaning rows.meaning lent.meaning table
 empty-means = refl
 
 -- ---- each side of a sound connection is sound
@@ -64,7 +65,7 @@ with-room StartedP none meaningP room x y o a zero ok m = go (m .sound)
 
 pub sender-in-use : (x y : Sender) (o : Outcome Answer rule-sender.Sender) (a : Answer) → room-ok (left (sender.meaning x) o .room) ≡ true
     → Meets paper sender.Sound sender.meaning x o a y → sender.Started y
-unfolding sender.meaning
+unfolding rows.meaning
 sender-in-use x y o a = with-room sender.Started sender.empty sender.meaning (λ s. s .room) x y o a refl
 
 pub receiver-in-use : (x y : Receiver) (o : Outcome Answer rule-receiver.Receiver) (a : Answer)
@@ -81,7 +82,7 @@ module _ (c : Connection) (sound : Sound c) where
 
     on-sender : (a : Answer) (y : Sender) → Meets paper sender.Sound sender.meaning (c .sender) sends a y
         → Meets paper Sound meaning c (within (with-sender (meaning c)) sends) a (record { sender = y; receiver = c .receiver })
-    unfolding meaning sender.meaning
+    unfolding meaning rows.meaning
     on-sender a y m =
         part put (with-sender (meaning c)) c (c .sender) sends a y refl (λ x. refl) m (go sound)
       where

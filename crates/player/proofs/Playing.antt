@@ -15,7 +15,7 @@ use Rattle.rules.specs.declared.Read.the-variants.{Record, Nothing}
 use Rattle.rules.proofs.Settled.{answer-is-rule}
 use Rattle.rules.proofs.RoundTrip.{read-kind}
 use Rattle.connection.specs.Record as connection
-use Rattle.sender.specs.Record as sender
+use Rattle.sending.specs.Lent as rows
 use Rattle.receiving.specs.Lent as lent
 use Rattle.lists.specs.Index.{table}
 use Rattle.table.specs.Slots.{meaning}
@@ -68,5 +68,5 @@ module _ (log : List ℕ) where
 
 -- the program's lines and its last line are those of the rules' replay
 pub plays-replay : (log : List ℕ) (l : List Replied) (last : Last) → Plays log begin l last → made l last ≡ replay log
-unfolding replay meaning connection.meaning sender.meaning lent.meaning table
+unfolding replay meaning connection.meaning rows.meaning lent.meaning table
 plays-replay log l last p = plays-from log (suc (length log)) p (omega arith)

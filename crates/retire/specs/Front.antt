@@ -1,6 +1,6 @@
 -- Rows that begin at place + 1's own block of 64: what stands there, and what is left after a SACK once the place has moved.
 use mathlib.Core.Path.{_≡_}
-use mathlib.Core.Bool.{Bool, true, not, cond, _&&_, _||_}
+use mathlib.Core.Bool.{Bool, true, false, not, cond, _&&_, _||_}
 use mathlib.Core.List.{List}
 use Prim.Native.Nat.{ℕ, _+_, _-_, _*_, _/_, _%_, _≤_, _<_}
 use lib.Dec.{leb, ltb}
@@ -40,14 +40,16 @@ retired-then retired f p = at retired p || f p && ltb p (bits retired)
 abbrev pub marked-then : List ℕ → (ℕ → Bool) → ℕ → Bool
 marked-then marked f p = at marked p && not (f p)
 
--- rows of the same length, not too long, in which all up to the place are retired
+-- rows of the same length, not too long, in which all up to the place are retired and unmarked, and place + 1 is not retired
 pub record Ready (retired marked sizes : List ℕ) (place n : ℕ) : Type 0 where
   pub marked-long : length marked ≡ length retired
   pub retired-long : length retired ≤ longest-weighed
   pub sizes-long : length sizes ≡ largest-room
   pub place-low : place < turn
-  pub few : n ≤ turn
+  pub few : n < turn
   pub before : (p : ℕ) → p < offset place → at retired p ≡ true
+  pub unmarked : (p : ℕ) → p < offset place → at marked p ≡ false
+  pub first-open : at retired (offset place) ≡ false
 
 -- the first bit that is left, when the place has moved m on
 abbrev pub front : ℕ → ℕ → ℕ

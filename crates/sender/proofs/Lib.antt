@@ -1,8 +1,3 @@
--- What the functions' proofs share, from the general laws to one event each; and that each promise settles its outcome. Assumes nothing.
-pub mod Entries
+-- The first record, and that each promise settles its outcome. Assumes nothing.
 pub mod Starting
-pub mod Sent
-pub mod Marked
-pub mod Resent
-pub mod Acknowledged
 pub mod Settled

@@ -5,7 +5,7 @@ use mathlib.Core.List.{[]}
 use Prim.Native.Nat.{ℕ, _+_, _-_, _%_}
 use native.Mathlib.Omega.{arith}
 use lib.Dec.{ltb}
-use lib.ListN.{set, replicate, length-set, length-replicate}
+use lib.ListN.{length, set, replicate, length-set, length-replicate}
 use borrow.Author.Tests.{lt-ltb, le-ltb}
 use Rattle.psn.specs.declared.Psn.{Psn}
 use Rattle.psn.specs.Psn.{turn, after}
@@ -15,8 +15,8 @@ use Rattle.row.specs.Row.{at, Row}
 use Rattle.row.proofs.Rows.{row-set, at-zeros}
 use Rattle.rules.specs.Numbers.{room-ok, largest-room, words}
 use Rattle.rules.specs.Sender.{fresh}
-use Rattle.sender.specs.declared.Sender.{Sender}
-use Rattle.sender.specs.Record.{meaning, Started}
+use Rattle.rules.proofs.Allowed.{room-numbers}
+use Rattle.sending.specs.Lent.{Lent, lent, meaning, Started}
 
 -- the bit of the first packet number is that of the place before it and 1
 first-bit : (first : ℕ) → (after first (turn - 1) + 1) % 64 ≡ first % 64
@@ -25,16 +25,12 @@ first-bit first = omega arith
 
 module _ (room first : ℕ) (place : Psn) (w : ℕ)
     (good : room-ok room ≡ true) (place-is : place .0 ≡ after first (turn - 1)) (low : Bits w (λ i. ltb i (first % 64))) where
-  abbrev pub begun : Sender
-  begun = record {
-    room = room;
-    place = place;
-    outstanding = 0;
-    held = 0;
-    sizes = replicate largest-room 0;
-    retired = set (replicate words 0) 0 w;
-    marked = replicate words 0;
-  }
+  abbrev pub begun : Lent
+  begun =
+      lent (record { room = room; place = place; outstanding = 0; held = 0 }) (replicate largest-room 0) (set (replicate words 0) 0 w) (replicate words 0)
+
+  long : length (begun .retired) ≡ words
+  long = length-set (replicate {A = ℕ} words 0) 0 w ∙ length-replicate {A = ℕ} words 0
 
   offset-is : (place .0 + 1) % 64 ≡ first % 64
   offset-is = ap (λ (n : ℕ). (n + 1) % 64) place-is ∙ first-bit first
@@ -56,8 +52,9 @@ module _ (room first : ℕ) (place : Psn) (w : ℕ)
     place-low = omega (arith, place-is);
     room-left = omega arith;
     sizes-long = length-replicate {A = ℕ} largest-room 0;
-    retired-long = length-set (replicate {A = ℕ} words 0) 0 w ∙ length-replicate {A = ℕ} words 0;
-    marked-long = length-replicate {A = ℕ} words 0;
+    enough = omega (arith, long, room-numbers room good .most);
+    most = omega (arith, long);
+    marked-long = length-replicate {A = ℕ} words 0 ∙ sym long;
     before = λ p l. low-at p ∙ lt-ltb p (first % 64) (omega (arith, offset-is));
     first-open = low-at ((place .0 + 1) % 64) ∙ le-ltb ((place .0 + 1) % 64) (first % 64) (omega (arith, offset-is));
     unsent = λ p l. low-at p ∙ le-ltb p (first % 64) (omega (arith, offset-is));

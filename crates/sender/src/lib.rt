@@ -1,25 +1,22 @@
-// The sending side. Its rows hold the packet numbers from place + 1's own block of 64 on: bit b of word j is number 64 j + b of that block
-// and those after it. The sizes stand by packet number modulo the largest room.
+// The sending side by value: a head beside its own rows.
 ghost use mathlib.Core.Path.{_≡_};
-ghost use mathlib.Core.Bool.{false};
 ghost use Rattle.rules.specs.Sender.{start as start-of};
-ghost use Rattle.rules.specs.Retire.{names-unsent, acknowledged};
 ghost use Rattle.rules.specs.Sending.{nack as nack-of, resend as resend-of, sack as sack-of, send as send-of, step as step-of, timer as timer-of};
-ghost use Rattle.sender.specs.Record.{empty as empty-of, meaning, with-marked, Started, Sound, Steps, Marks};
-use marks::Found;
+ghost use Rattle.sender.specs.Record.{empty as empty-of, meaning, Sound, Steps};
 use psn::Psn;
 use psn::TURN;
 use rules::Answer;
 use rules::Block;
 use rules::LARGEST_ROOM;
 use rules::Opening;
-use rules::Report;
 use rules::Sending;
 use rules::WORDS;
+use sending::Head;
 
 // A size for each packet number of the largest room.
 pub const SIZES: usize = LARGEST_ROOM as usize;
 
+// A sender by value.
 pub struct Sender {
     pub room: u32,
     pub place: Psn,
@@ -33,12 +30,6 @@ pub struct Sender {
 // The answer to an event, and the record after it.
 pub struct Stepped {
     pub answer: Answer,
-    pub record: Sender,
-}
-
-// Whether a mark was set, and the record after.
-pub struct Marking {
-    pub newly: u8,
     pub record: Sender,
 }
 
@@ -103,89 +94,15 @@ impl Sender {
         requires { ⌜ Sound self ⌝ }
         ensures { λ r. ⌜ Steps self (send-of (meaning self) size) r ⌝ }
     {
-        let room = self.room;
-        let n = self.outstanding;
-        if room == 0 {
-            return self.refused(2);
-        }
-        if !allowed::size_ok(size) {
-            return self.refused(6);
-        }
-        if room <= n {
-            return self.refused(7);
-        }
-        let place = self.place;
-        let mut sizes = self.sizes;
-        let retired = self.retired;
-        let marked = self.marked;
-        let at = ((place.0 + 1 + n) % LARGEST_ROOM) as usize;
-        sizes[at] = size;
-        Stepped {
-            answer: Answer::Sent(place.after(1 + n)),
-            record: Sender {
-                room,
-                place,
-                outstanding: n + 1,
-                held: self.held + size as u32,
-                sizes,
-                retired,
-                marked,
-            },
-        }
+        self.step(Sending::Send { size })
     }
 
-    // The record with other marks.
-    fn with_marked(self, marked: [u64; WORDS]) -> Sender
-        ensures { λ r. ⌜ r ≡ with-marked self marked ⌝ }
-    {
-        let place = self.place;
-        let sizes = self.sizes;
-        let retired = self.retired;
-        Sender {
-            room: self.room,
-            place,
-            outstanding: self.outstanding,
-            held: self.held,
-            sizes,
-            retired,
-            marked,
-        }
-    }
-
-    // A packet number is marked if it is outstanding, not retired and not yet marked.
-    fn mark(self, psn: Psn) -> Marking
-        requires { ⌜ Started self ⌝ }
-        ensures { λ r. ⌜ Marks self (psn .0) r ⌝ }
-    {
-        let retired = self.retired;
-        let mut marked = self.marked;
-        let newly = marks::mark_psn(&retired, &mut marked, self.place, self.outstanding, psn);
-        Marking {
-            newly,
-            record: self.with_marked(marked),
-        }
-    }
-
-    // A timer ran out for a packet number.
-    pub fn timer(self, psn: Psn) -> Stepped
+    // A SACK.
+    pub fn sack(self, cack: Psn, block: Block) -> Stepped
         requires { ⌜ Sound self ⌝ }
-        ensures { λ r. ⌜ Steps self (timer-of (meaning self) psn) r ⌝ }
+        ensures { λ r. ⌜ Steps self (sack-of (meaning self) cack block) r ⌝ }
     {
-        if self.room == 0 {
-            return self.refused(2);
-        }
-        if !allowed::psn_ok(psn) {
-            return self.refused(5);
-        }
-        if retire::unsent(self.place, self.outstanding, psn) {
-            return self.refused(8);
-        }
-        let out = self.mark(psn);
-        let record = out.record;
-        Stepped {
-            answer: Answer::Expired(out.newly),
-            record,
-        }
+        self.step(Sending::Sack { cack, block })
     }
 
     // A NACK for a packet number, with its reason.
@@ -193,30 +110,15 @@ impl Sender {
         requires { ⌜ Sound self ⌝ }
         ensures { λ r. ⌜ Steps self (nack-of (meaning self) psn reason) r ⌝ }
     {
-        if self.room == 0 {
-            return self.refused(2);
-        }
-        if !allowed::psn_ok(psn) {
-            return self.refused(5);
-        }
-        if !allowed::reason_ok(reason) {
-            return self.refused(15);
-        }
-        if retire::unsent(self.place, self.outstanding, psn) {
-            return self.refused(8);
-        }
-        if 4 < reason {
-            return Stepped {
-                answer: Answer::Marked(0),
-                record: self,
-            };
-        }
-        let out = self.mark(psn);
-        let record = out.record;
-        Stepped {
-            answer: Answer::Marked(out.newly),
-            record,
-        }
+        self.step(Sending::Nack { psn, reason })
+    }
+
+    // A timer ran out for a packet number.
+    pub fn timer(self, psn: Psn) -> Stepped
+        requires { ⌜ Sound self ⌝ }
+        ensures { λ r. ⌜ Steps self (timer-of (meaning self) psn) r ⌝ }
+    {
+        self.step(Sending::Timer { psn })
     }
 
     // The marked packet number nearest after the place is handed out, and its mark cleared.
@@ -224,88 +126,39 @@ impl Sender {
         requires { ⌜ Sound self ⌝ }
         ensures { λ r. ⌜ Steps self (resend-of (meaning self)) r ⌝ }
     {
-        if self.room == 0 {
-            return self.refused(2);
-        }
-        let mut marked = self.marked;
-        let Found::Marked(psn) = marks::take(&mut marked, self.place, self.outstanding) else {
-            return self.refused(9);
-        };
-        Stepped {
-            answer: Answer::Resent(psn),
-            record: self.with_marked(marked),
-        }
+        self.step(Sending::Resend)
     }
 
-    // A SACK: judged whole before anything is retired.
-    pub fn sack(self, cack: Psn, block: Block) -> Stepped
-        requires { ⌜ Sound self ⌝ }
-        ensures { λ r. ⌜ Steps self (sack-of (meaning self) cack block) r ⌝ }
-    {
-        if self.room == 0 {
-            return self.refused(2);
-        }
-        if !allowed::psn_ok(cack) {
-            return self.refused(5);
-        }
-        if !allowed::psn_ok(block.base) {
-            return self.refused(5);
-        }
-        let contradicts = retire::contradicts(cack, block);
-        let unsent = retire::names_unsent(self.place, self.outstanding, cack, block);
-        if contradicts {
-            return self.refused(17);
-        }
-        if unsent {
-            return self.refused(8);
-        }
-        self.acknowledge(cack, block)
-    }
-
-    // All that a SACK names is retired, and the place moves over the retired at the front.
-    fn acknowledge(self, cack: Psn, block: Block) -> Stepped
-        requires { ⌜ Started self × (names-unsent (meaning self) (cack .0) block ≡ false) ⌝ }
-        ensures { λ r. ⌜ Steps self (acknowledged (meaning self) (cack .0) block) r ⌝ }
-    {
-        let place = self.place;
-        let n = self.outstanding;
-        let sizes = self.sizes;
-        let mut retired = self.retired;
-        let mut marked = self.marked;
-        let out = retire::acknowledge(&mut retired, &mut marked, &sizes, place, n, cack, block);
-        let held = self.held - out.bytes;
-        let outstanding = n - out.by;
-        let now = place.after(out.by);
-        Stepped {
-            answer: Answer::Retired(Report {
-                newly: out.newly,
-                place: now,
-                held,
-                alarms: out.alarms,
-            }),
-            record: Sender {
-                room: self.room,
-                place: now,
-                outstanding,
-                held,
-                sizes,
-                retired,
-                marked,
-            },
-        }
-    }
-
-    // An event.
+    // An event, at the head over its own rows.
     pub fn step(self, event: Sending) -> Stepped
         requires { ⌜ Sound self ⌝ }
         ensures { λ r. ⌜ Steps self (step-of (meaning self) event) r ⌝ }
     {
-        match event {
-            Sending::Send { size } => return self.send(size),
-            Sending::Sack { cack, block } => return self.sack(cack, block),
-            Sending::Nack { psn, reason } => return self.nack(psn, reason),
-            Sending::Timer { psn } => return self.timer(psn),
-            Sending::Resend => return self.resend(),
+        let place = self.place;
+        let mut sizes = self.sizes;
+        let mut retired = self.retired;
+        let mut marked = self.marked;
+        let head = Head {
+            room: self.room,
+            place,
+            outstanding: self.outstanding,
+            held: self.held,
+        };
+        let out = head.step(&mut sizes, &mut retired, &mut marked, event);
+        let answer = out.answer;
+        let left = out.record;
+        let next = left.place;
+        Stepped {
+            answer,
+            record: Sender {
+                room: left.room,
+                place: next,
+                outstanding: left.outstanding,
+                held: left.held,
+                sizes,
+                retired,
+                marked,
+            },
         }
     }
 }

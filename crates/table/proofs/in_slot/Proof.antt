@@ -14,7 +14,7 @@ use Rattle.rules.specs.Table.{taken-refusals, in-slot}
 use Rattle.rules.specs.declared.Event.the-variants as event
 use Rattle.rules.specs.declared.Start.{Start}
 use Rattle.rules.proofs.Settled.{on-refusal}
-use Rattle.sender.specs.Record as sender
+use Rattle.sending.specs.Lent as rows
 use Rattle.connection.proofs.Sides.{not-zero}
 use Rattle.connection.specs.declared.Connection.{Connection}
 use Rattle.connection.specs.declared.Stepped.{Stepped}
@@ -33,7 +33,7 @@ is-empty x s free = ⊎-elim (λ e. e) (λ t. absurd (not-zero (x .sender .room)
 -- a start of it is a start by value
 free-start : (x : Connection) (s : Start) (r : Stepped) → Sound x → x .sender .room ≡ 0 → Steps empty (start s) r
     → Steps x (in-slot (meaning x) (event.Start s)) r
-unfolding in-slot taken-refusals meaning sender.meaning test Past
+unfolding in-slot taken-refusals meaning rows.meaning test Past
 free-start x s r sound free m =
     let passed : Past (tests x) 1 = past (tests x) 0 tt (ap not (eq-eqb (x .sender .room) 0 free)) in
     rw (none-left (tests x) (start s) passed) (subst (λ (y : Connection). Steps y (start s) r) (sym (is-empty x sound free)) m)
@@ -42,7 +42,7 @@ enum-known-event : tie.Need-enum-known-event
 enum-known-event c = search needs
 
 returns : tie.Need-returns
-unfolding in-slot taken-refusals meaning sender.meaning test number Past
+unfolding in-slot taken-refusals meaning rows.meaning test number Past
 returns c =
     let v = c .before .before .event .given in
     let e = c .before .before .before .before .before in

@@ -10,7 +10,7 @@ use Rattle.rules.specs.Connection.{close, close-refusals}
 use Rattle.rules.specs.Connection as rule
 use Rattle.rules.specs.declared.Answer.the-variants as answer
 use Rattle.rules.proofs.Settled.{on-refusal}
-use Rattle.sender.specs.Record as sender
+use Rattle.sending.specs.Lent as rows
 use Rattle.connection.specs.declared.Connection.{Connection}
 use Rattle.connection.specs.Record.{meaning}
 use Rattle.connection.proofs.Sides.{empty-means}
@@ -18,14 +18,14 @@ use Rattle.connection.proofs.Connection.close.Statement.{statement}
 use Rattle.connection.proofs.Connection.close.Tie as tie
 
 past-unused : (x : Connection) → (x .sender .room ≡ 0 → ⊥) → Past (close-refusals (meaning x)) 1
-unfolding close-refusals meaning sender.meaning test Past
+unfolding close-refusals meaning rows.meaning test Past
 past-unused x used = past (close-refusals (meaning x)) 0 tt (ne-eqb (x .sender .room) 0 used)
 
 refused-requires : tie.Need-refused-requires
 refused-requires c κs = search needs
 
 returns : tie.Need-returns
-unfolding close close-refusals meaning sender.meaning test number Past
+unfolding close close-refusals meaning rows.meaning test number Past
 returns c =
     let entry = c .before .before .before in
     let x = entry .args .self in

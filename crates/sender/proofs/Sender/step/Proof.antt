@@ -1,75 +1,61 @@
--- `Sender::step` meets its contract: each event is answered by its own method. Assumes nothing.
-use Rattle.rules.specs.Sending.{step}
+-- `Sender::step` meets its contract: it is an event at its head over its rows. Assumes nothing.
+use mathlib.Core.Path.{_≡_, sym, ap, _∙_}
+use mathlib.Core.Logic.{inl, inr}
+use native.Mathlib.Omega.{arith}
+use lib.ListN.{length}
 use borrow.Author.Needs.{needs}
+use Rattle.rules.specs.Numbers.{words}
+use Rattle.sending.specs.Lent.{Lent}
+use Rattle.sending.specs.Lent as lent
+use Rattle.sender.specs.declared.Sender.{Sender}
+use Rattle.sender.specs.Record.{lent-of, Sound}
 use Rattle.sender.proofs.Sender.step.Statement.{statement}
 use Rattle.sender.proofs.Sender.step.Tie as tie
 
-enum-known-event : tie.Need-enum-known-event
-enum-known-event c = search needs
+-- a head over its rows, as a record
+abbrev joined : Lent → Sender
+joined x = record {
+  room = x .head .room;
+  place = x .head .place;
+  outstanding = x .head .outstanding;
+  held = x .head .held;
+  sizes = x .sizes;
+  retired = x .retired;
+  marked = x .marked;
+}
 
-send-requires : tie.Need-send-requires
-send-requires c κs = search needs
+-- both are sound
+lent-sound : (x : Sender) → Sound x → lent.Sound (lent-of x)
+lent-sound x (inl e) = inl (ap lent-of e ∙ ap (λ (y : Sender). lent.empty (length (y .retired))) (sym e))
+lent-sound x (inr s) = inr s
+
+joined-sound : (x : Lent) → length (x .retired) ≡ words → lent.Sound x → Sound (joined x)
+joined-sound x n (inl e) = inl (ap joined (e ∙ ap lent.empty n))
+joined-sound x n (inr s) = inr s
+
+slice-aggregate-step : tie.Need-slice-aggregate-step
+slice-aggregate-step c = search needs
+
+slice-aggregate-step-2 : tie.Need-slice-aggregate-step-2
+slice-aggregate-step-2 c = search needs
+
+slice-aggregate-step-3 : tie.Need-slice-aggregate-step-3
+slice-aggregate-step-3 c = search needs
+
+step-requires : tie.Need-step-requires
+step-requires c κs =
+    let entry = c .before .before .before .before .before .before .before in
+    lent-sound (entry .args .self) (entry .pre)
 
 returns : tie.Need-returns
-unfolding step
-returns c = rw (c .before .before .event .given .1) (c .send .ensures)
-
-enum-known-event-2 : tie.Need-enum-known-event-2
-enum-known-event-2 c = search needs
-
-sack-requires : tie.Need-sack-requires
-sack-requires c κs = search needs
-
-returns-2 : tie.Need-returns-2
-unfolding step
-returns-2 c = rw (c .before .before .event2 .given .1) (c .sack .ensures)
-
-enum-known-event-3 : tie.Need-enum-known-event-3
-enum-known-event-3 c = search needs
-
-nack-requires : tie.Need-nack-requires
-nack-requires c κs = search needs
-
-returns-3 : tie.Need-returns-3
-unfolding step
-returns-3 c = rw (c .before .before .event3 .given .1) (c .nack .ensures)
-
-enum-known-event-4 : tie.Need-enum-known-event-4
-enum-known-event-4 c = search needs
-
-timer-requires : tie.Need-timer-requires
-timer-requires c κs = search needs
-
-returns-4 : tie.Need-returns-4
-unfolding step
-returns-4 c = rw (c .before .before .event4 .given .1) (c .timer .ensures)
-
-enum-told : tie.Need-enum-told
-enum-told c = search needs
-
-resend-requires : tie.Need-resend-requires
-resend-requires c κs = search needs
-
-returns-5 : tie.Need-returns-5
-unfolding step
-returns-5 c = rw (c .before .enum-told .given .1) (c .resend .ensures)
+returns c =
+    let m = c .before .before .before .before .before .step .ensures .meets in
+    record {
+      answer-is = m .answer-is;
+      record-is = m .record-is;
+      untouched = λ n e. ap joined (m .untouched n e);
+      sound = joined-sound _ (omega arith) (m .sound);
+    }
 
 pub step-spec : {M : Type 1} → statement M
-step-spec =
-    tie.close
-    (tie.spec
-    enum-known-event
-    send-requires
-    returns
-    enum-known-event-2
-    sack-requires
-    returns-2
-    enum-known-event-3
-    nack-requires
-    returns-3
-    enum-known-event-4
-    timer-requires
-    returns-4
-    enum-told
-    resend-requires
-    returns-5)
+step-spec = tie.close (tie.spec slice-aggregate-step slice-aggregate-step-2 slice-aggregate-step-3 step-requires returns)

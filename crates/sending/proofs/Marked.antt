@@ -1,5 +1,5 @@
 -- One mark set or cleared: one bit of the row is one entry of the record, and a NACK or timer sets it only where it may. Assumes nothing.
-use mathlib.Core.Path.{_≡_, refl, sym, ap, ap₂, subst, _∙_}
+use mathlib.Core.Path.{_≡_, refl, sym, ap, ap₂, _∙_}
 use mathlib.Core.Bool.{Bool, true, false, not, cond, _&&_, _||_, or-true, or-false, and-true, and-false}
 use mathlib.Core.List.{List, map}
 use mathlib.Core.Logic.{inr}
@@ -18,30 +18,33 @@ use Rattle.lists.proofs.Tables.{update-table}
 use Rattle.row.specs.Row.{at, bits, Row, Becomes, without-bit}
 use Rattle.marks.specs.Marks as marks
 use Rattle.promise.specs.Outcome.{Done}
+use Rattle.promise.specs.Promise.{Meets}
 use Rattle.promise.proofs.Meeting.{does}
-use Rattle.rules.specs.Numbers.{words}
+use Rattle.rules.specs.Paper.{paper}
 use Rattle.rules.specs.Sender.{size-held, index, with-entries}
 use Rattle.rules.specs.Sender as rule
 use Rattle.rules.specs.Marks.{with-mark, markable, mark, nacked}
 use Rattle.rules.specs.declared.Answer.{Answer}
 use Rattle.rules.specs.declared.Answer.the-variants as answer
 use Rattle.retire.proofs.Judged.{index-is}
-use Rattle.sender.specs.declared.Sender.{Sender}
-use Rattle.sender.specs.declared.Stepped.{Stepped}
-use Rattle.sender.specs.Record.{meaning, entry, offset, with-marked, Started, Steps, Marks}
-use Rattle.sender.proofs.Entries.{same-entry, few, stands}
+use Rattle.sending.specs.Lent.{Lent, lent, meaning, entry, offset, Started, Sound}
+use Rattle.sending.proofs.Entries.{same-entry, stands}
 
--- ---- the record with another row of marks
-module _ (x : Sender) (h : Started x) (ws : List ℕ) (long : length ws ≡ words) (not-both : (p : ℕ) → (at (x .retired) p && at ws p) ≡ false)
-    (mark-unsent : (p : ℕ) → offset x + x .outstanding ≤ p → at ws p ≡ false) where
-  remarked-started : Started (with-marked x ws)
+-- ---- another row of marks
+abbrev pub remarked : Lent → List ℕ → Lent
+remarked x = lent (x .head) (x .sizes) (x .retired)
+
+module _ (x : Lent) (h : Started x) (ws : List ℕ) (long : length ws ≡ length (x .retired)) (not-both : (p : ℕ) → (at (x .retired) p && at ws p) ≡ false)
+    (mark-unsent : (p : ℕ) → offset x + x .head .outstanding ≤ p → at ws p ≡ false) where
+  remarked-started : Started (remarked x ws)
   unfolding entry size-held
   remarked-started = record {
     room-good = h .room-good;
     place-low = h .place-low;
     room-left = h .room-left;
     sizes-long = h .sizes-long;
-    retired-long = h .retired-long;
+    enough = h .enough;
+    most = h .most;
     marked-long = long;
     before = h .before;
     first-open = h .first-open;
@@ -80,7 +83,7 @@ module _ (ws : List ℕ) (p : ℕ) (may : Bool) (ws′ : List ℕ) (h : Becomes 
       none false = or-false (at ws k)
 
 -- ---- the record whose entry i has mark b, if it is not retired
-module _ (x : Sender) (h : Started x) (b : Bool) (i : ℕ) (l : i < x .outstanding) (ws : List ℕ) (long : length ws ≡ words)
+module _ (x : Lent) (h : Started x) (b : Bool) (i : ℕ) (l : i < x .head .outstanding) (ws : List ℕ) (long : length ws ≡ length (x .retired))
     (may : (at (x .retired) (offset x + i) && b) ≡ false) (puts : Puts b (offset x + i) (x .marked) ws) where
   put-here : (k : ℕ) → k ≡ offset x + i → at ws k ≡ b
   put-here k e = puts k ∙ ap (λ (t : Bool). cond t b (at (x .marked) k)) (eq-eqb k (offset x + i) e)
@@ -88,23 +91,23 @@ module _ (x : Sender) (h : Started x) (b : Bool) (i : ℕ) (l : i < x .outstandi
   put-other : (k : ℕ) → (k ≡ offset x + i → ⊥) → at ws k ≡ at (x .marked) k
   put-other k n = puts k ∙ ap (λ (t : Bool). cond t b (at (x .marked) k)) (ne-eqb k (offset x + i) n)
 
-  entry-is : (j : ℕ) → entry (with-marked x ws) j ≡ cond (eqb j i) (with-mark b (entry x j)) (entry x j)
+  entry-is : (j : ℕ) → entry (remarked x ws) j ≡ cond (eqb j i) (with-mark b (entry x j)) (entry x j)
   unfolding entry
   entry-is j = go (ℕ-discrete j i)
     where
-      go : Dec (j ≡ i) → entry (with-marked x ws) j ≡ cond (eqb j i) (with-mark b (entry x j)) (entry x j)
+      go : Dec (j ≡ i) → entry (remarked x ws) j ≡ cond (eqb j i) (with-mark b (entry x j)) (entry x j)
       go (yes e) = rw (eq-eqb j i e) (same-entry refl refl (put-here (offset x + j) (omega arith)))
       go (no e) = rw (ne-eqb j i e) (same-entry refl refl (put-other (offset x + j) (λ q. e (omega arith))))
 
-  pub put-means : meaning (with-marked x ws) ≡ with-entries (meaning x) (update (with-mark b) (meaning x .entries) i)
+  pub put-means : meaning (remarked x ws) ≡ with-entries (meaning x) (update (with-mark b) (meaning x .entries) i)
   unfolding meaning with-entries
   put-means = λ t. record {
-    room = x .room;
-    place = x .place .0;
-    entries = (table-same (x .outstanding) _ _ (λ j p. entry-is j) ∙ sym (update-table (with-mark b) (x .outstanding) (entry x) i)) t;
+    room = x .head .room;
+    place = x .head .place .0;
+    entries = (table-same (x .head .outstanding) _ _ (λ j p. entry-is j) ∙ sym (update-table (with-mark b) (x .head .outstanding) (entry x) i)) t;
   }
 
-  pub put-started : Started (with-marked x ws)
+  pub put-started : Started (remarked x ws)
   put-started =
       remarked-started x h ws long (λ p. not-both-at p (ℕ-discrete p (offset x + i))) (λ p m. put-other p (λ e. omega arith) ∙ h .mark-unsent p m)
     where
@@ -113,62 +116,65 @@ module _ (x : Sender) (h : Started x) (b : Bool) (i : ℕ) (l : i < x .outstandi
       not-both-at p (no e) = ap (λ (t : Bool). at (x .retired) p && t) (put-other p e) ∙ h .not-both p
 
 -- ---- a row with the same bits means the same
-module _ (x : Sender) (h : Started x) (ws : List ℕ) (long : length ws ≡ words) (same : Row ws (at (x .marked))) where
-  same-means : meaning (with-marked x ws) ≡ meaning x
+module _ (x : Lent) (h : Started x) (ws : List ℕ) (long : length ws ≡ length (x .retired)) (same : Row ws (at (x .marked))) where
+  same-means : meaning (remarked x ws) ≡ meaning x
   unfolding meaning entry
   same-means = λ t. record {
-    room = x .room;
-    place = x .place .0;
-    entries = table-same (x .outstanding) (entry (with-marked x ws)) (entry x) (λ j p. same-entry refl refl (same (offset x + j))) t;
+    room = x .head .room;
+    place = x .head .place .0;
+    entries = table-same (x .head .outstanding) (entry (remarked x ws)) (entry x) (λ j p. same-entry refl refl (same (offset x + j))) t;
   }
 
-  same-started : Started (with-marked x ws)
+  same-started : Started (remarked x ws)
   same-started =
       remarked-started x h ws long (λ p. ap (λ (t : Bool). at (x .retired) p && t) (same p) ∙ h .not-both p) (λ p m. same p ∙ h .mark-unsent p m)
 
--- ---- NACK and timer, for packet number p
-module _ (x : Sender) (h : Started x) (p : ℕ) where
+-- ---- NACK and timer, for packet number p: n became marked, and the row is left so, however it is told
+abbrev pub Marks : Lent → ℕ → ℕ → List ℕ → Type 0
+Marks x p n ws = (tell : ℕ → Answer) → Meets paper Sound meaning x (mark tell (meaning x) p) (tell n) (remarked x ws)
+
+module _ (x : Lent) (h : Started x) (p : ℕ) where
   abbrev i : ℕ
-  i = distance (after (x .place .0) 1) p
+  i = distance (after (x .head .place .0) 1) p
 
   abbrev may-mark : Bool
   may-mark = getD (map markable (meaning x .entries)) (index (meaning x) p) false
 
   abbrev markable-row : Bool
-  markable-row = marks.markable-psn (x .retired) (x .marked) (x .place .0) (x .outstanding) p
+  markable-row = marks.markable-psn (x .retired) (x .marked) (x .head .place .0) (x .head .outstanding) p
 
   -- the rule's test and the rows'
   may-is : may-mark ≡ markable-row
   unfolding meaning entry
   may-is =
-      ap₂ (λ (l : List Bool) (j : ℕ). getD l j false) (map-table markable (x .outstanding) (entry x)) (index-is (meaning x) _ _ (stands x) p)
-      ∙ go (decLt i (x .outstanding))
+      ap₂ (λ (l : List Bool) (j : ℕ). getD l j false) (map-table markable (x .head .outstanding) (entry x)) (index-is (meaning x) _ _ (stands x) p)
+      ∙ go (decLt i (x .head .outstanding))
     where
-      go : Dec (i < x .outstanding) → getD (table (x .outstanding) (λ j. markable (entry x j))) i false ≡ markable-row
-      go (yes l) = rw (lt-ltb i (x .outstanding) l) (getD-table (x .outstanding) (λ j. markable (entry x j)) i false l)
+      go : Dec (i < x .head .outstanding) → getD (table (x .head .outstanding) (λ j. markable (entry x j))) i false ≡ markable-row
+      go (yes l) = rw (lt-ltb i (x .head .outstanding) l) (getD-table (x .head .outstanding) (λ j. markable (entry x j)) i false l)
       go (no l) =
-          let t : List Bool = table (x .outstanding) (λ j. markable (entry x j)) in
-          rw (le-ltb i (x .outstanding) (omega arith))
-          (List·getD-eq-default t false (omega (arith, length-table (x .outstanding) (λ j. markable (entry x j)))))
+          let t : List Bool = table (x .head .outstanding) (λ j. markable (entry x j)) in
+          rw (le-ltb i (x .head .outstanding) (omega arith))
+          (List·getD-eq-default t false (omega (arith, length-table (x .head .outstanding) (λ j. markable (entry x j)))))
 
-  module _ (ws : List ℕ) (n : ℕ) (rows : marks.Marks (x .retired) (x .marked) (x .place .0) (x .outstanding) p ws n) where
-    long : length ws ≡ words
+  module _ (ws : List ℕ) (n : ℕ) (rows : marks.Marks (x .retired) (x .marked) (x .head .place .0) (x .head .outstanding) p ws n) where
+    long : length ws ≡ length (x .retired)
     long = rows .marked-are .long ∙ h .marked-long
 
     newly-in : (tell : ℕ → Answer) (b : Bool) → markable-row ≡ b → tell n ≡ tell (cond b 1 0)
     newly-in tell b e = ap tell (rows .newly-is ∙ ap (λ (t : Bool). cond t 1 0) e)
 
     -- the rule marks, and the bit is set
-    set-steps : markable-row ≡ true → Marks x p (record { newly = n; «record» = with-marked x ws })
+    set-meets : markable-row ≡ true → Marks x p n ws
     unfolding mark
-    set-steps e =
+    set-meets e =
         let q = offset x + i in
-        let each = and-true-each (ltb i (x .outstanding)) (marks.markable (x .retired) (x .marked) q) e in
-        let l = ltb-true i (x .outstanding) (each .0) in
+        let each = and-true-each (ltb i (x .head .outstanding)) (marks.markable (x .retired) (x .marked) q) e in
+        let l = ltb-true i (x .head .outstanding) (each .0) in
         let open-there : at (x .retired) q ≡ false =
         not-true (at (x .retired) q) (and-true-each (not (at (x .retired) q)) (not (at (x .marked) q)) (each .1) .0) in
         let may : (at (x .retired) q && true) ≡ false = ap (λ (t : Bool). t && true) open-there in
-        let puts = marked-puts (x .marked) q markable-row ws (rows .marked-are) (omega (arith, h .marked-long, few x h)) e in
+        let puts = marked-puts (x .marked) q markable-row ws (rows .marked-are) (omega (arith, h .marked-long, h .enough, h .room-left)) e in
         let yes-mark : may-mark ≡ true = may-is ∙ e in
         λ tell.
         does _ _ (rw yes-mark) (newly-in tell true e)
@@ -177,26 +183,26 @@ module _ (x : Sender) (h : Started x) (p : ℕ) where
         (inr (put-started x h true i l ws long may puts))
 
     -- it does not, and the bits are as they were
-    kept-steps : markable-row ≡ false → Marks x p (record { newly = n; «record» = with-marked x ws })
+    kept-meets : markable-row ≡ false → Marks x p n ws
     unfolding mark
-    kept-steps e =
+    kept-meets e =
         let same = marked-keeps (x .marked) (offset x + i) markable-row ws (rows .marked-are) e in
         let no-mark : may-mark ≡ false = may-is ∙ e in
         λ tell. does _ _ (rw no-mark) (newly-in tell false e) (same-means x h ws long same) (inr (same-started x h ws long same))
 
-    pub mark-steps : (y : Sender) → y ≡ with-marked x ws → Marks x p (record { newly = n; «record» = y })
-    mark-steps y y-is = subst (λ (z : Sender). Marks x p (record { newly = n; «record» = z })) (sym y-is) (by markable-row refl)
+    pub mark-meets : Marks x p n ws
+    mark-meets = by markable-row refl
       where
-        by : (b : Bool) → markable-row ≡ b → Marks x p (record { newly = n; «record» = with-marked x ws })
-        by true e = set-steps e
-        by false e = kept-steps e
+        by : (b : Bool) → markable-row ≡ b → Marks x p n ws
+        by true e = set-meets e
+        by false e = kept-meets e
 
 -- ---- a NACK's reason: above 4 nothing is marked
 pub nacked-none : (y : rule.Sender) (p reason : ℕ) → 4 < reason → nacked y p reason ≡ Done y (answer.Marked 0)
 unfolding nacked
 nacked-none y p reason l = rw (lt-leb reason 4 l)
 
-pub nacked-mark : (x : Sender) (p reason : ℕ) → reason ≤ 4 → (r : Stepped) → Steps x (mark answer.Marked (meaning x) p) r
-    → Steps x (nacked (meaning x) p reason) r
+pub nacked-mark : (x : Lent) (p reason : ℕ) → reason ≤ 4 → (a : Answer) (y : Lent) → Meets paper Sound meaning x (mark answer.Marked (meaning x) p) a y
+    → Meets paper Sound meaning x (nacked (meaning x) p reason) a y
 unfolding nacked
-nacked-mark x p reason l r h = rw (le-leb reason 4 l) h
+nacked-mark x p reason l a y h = rw (le-leb reason 4 l) h

@@ -3,7 +3,7 @@
 use mathlib.Core.Path.{_≡_, refl, sym, ap, ap₂, subst, _∙_}
 use mathlib.Core.Bool.{Bool, true, false, not, cond, _&&_, _||_, false≢true, or-true, or-false, and-true, and-false}
 use mathlib.Core.List.{List, map}
-use Prim.Native.Nat.{ℕ, suc, _+_, _-_, _*_, _%_, _≤_, _<_}
+use Prim.Native.Nat.{ℕ, suc, _+_, _-_, _%_, _≤_, _<_}
 use native.Mathlib.Omega.{arith}
 use native.Mathlib.Decide.{decLt}
 use lib.Dec.{ltb, leb}
@@ -21,7 +21,7 @@ use Rattle.lists.proofs.Tables.{lead-table}
 use Rattle.word.specs.Word.{bit-at}
 use Rattle.word.proofs.Compare.{leb-same}
 use Rattle.row.specs.Row.{at, bits}
-use Rattle.rules.specs.Numbers.{psn, size-ok, largest-room, words}
+use Rattle.rules.specs.Numbers.{psn, size-ok, largest-room}
 use Rattle.rules.specs.Sender.{Entry, size-held, held, unsent}
 use Rattle.rules.specs.Sender as rule
 use Rattle.rules.specs.Retire.{any-set, unsent-cack, unsent-bit, names-unsent, up-to, has-bit, named, retired, retire, newly, false-alarms, is-retired, settle, after-sack, report}
@@ -32,9 +32,8 @@ use Rattle.retire.specs.Front.{row-first, reach, named-by, retired-then, marked
 use Rattle.retire.specs.declared.Moved.{Moved}
 use Rattle.retire.proofs.Naming.{size-on}
 use Rattle.retire.proofs.Judged.{is-past}
-use Rattle.sender.specs.declared.Sender.{Sender}
-use Rattle.sender.specs.Record.{meaning, entry, offset, size-at, Started}
-use Rattle.sender.proofs.Entries.{same-entry, length-entries, held-total, few, stands}
+use Rattle.sending.specs.Lent.{Lent, meaning, entry, offset, size-at, Started}
+use Rattle.sending.proofs.Entries.{same-entry, length-entries, held-total, stands}
 
 -- ---- numbers: the rows begin at the packet number `row-first` of a place a
 way : (a i : ℕ) → turn + 1 - (a + 1) % 64 + ((a + 1) % 64 + i) ≡ 1 + i + turn
@@ -75,16 +74,16 @@ retired-holds : (e : Entry) → e .retired ≡ true → size-held e ≡ 0
 unfolding size-held
 retired-holds e q = ap (λ (b : Bool). cond b 0 (e .size)) q
 
-sizes-good-of : (x : Sender) → Started x → (i : ℕ) → i < x .outstanding → size-ok (getD (x .sizes) (size-at x i) 0) ≡ true
+sizes-good-of : (x : Lent) → Started x → (i : ℕ) → i < x .head .outstanding → size-ok (getD (x .sizes) (size-at x i) 0) ≡ true
 unfolding entry
 sizes-good-of x h i l = h .sizes-good i l
 
 -- ---- how far cack reaches
-pub reach-is : (x : Sender) (cack : ℕ) → reach (x .place .0) (x .outstanding) cack ≡ offset x + up-to (meaning x) cack
+pub reach-is : (x : Lent) (cack : ℕ) → reach (x .head .place .0) (x .head .outstanding) cack ≡ offset x + up-to (meaning x) cack
 unfolding up-to meaning
-reach-is x cack = let d = distance (x .place .0) cack in ap (λ (n : ℕ). offset x + cond (leb d n) d 0) (sym (length-entries x))
+reach-is x cack = let d = distance (x .head .place .0) cack in ap (λ (n : ℕ). offset x + cond (leb d n) d 0) (sym (length-entries x))
 
-up-to-le : (x : Sender) (cack : ℕ) → up-to (meaning x) cack ≤ x .outstanding
+up-to-le : (x : Lent) (cack : ℕ) → up-to (meaning x) cack ≤ x .head .outstanding
 unfolding up-to
 up-to-le x cack = by (leb d n) refl
   where
@@ -94,23 +93,24 @@ up-to-le x cack = by (leb d n) refl
     n : ℕ
     n = length (meaning x .entries)
 
-    by : (b : Bool) → leb d n ≡ b → cond (leb d n) d 0 ≤ x .outstanding
+    by : (b : Bool) → leb d n ≡ b → cond (leb d n) d 0 ≤ x .head .outstanding
     by true e = rw e (omega (arith, leb-true d n e, length-entries x))
     by false e = rw e (omega arith)
 
 -- a started record whose rows such a SACK has left so
-pub record RowsRetired (x : Sender) (cack : ℕ) (b : Block) (R″ M″ : List ℕ) (out : Moved) : Type 0 where
+pub record RowsRetired (x : Lent) (cack : ℕ) (b : Block) (R″ M″ : List ℕ) (out : Moved) : Type 0 where
   pub started : Started x
   pub none-unsent : names-unsent (meaning x) cack b ≡ false
-  pub rows : Moves (x .retired) (x .marked) (x .sizes) (x .place .0) (x .outstanding) (named-by (x .place .0) (x .outstanding) cack b) R″ M″ out
+  pub rows : Moves (x .retired) (x .marked) (x .sizes) (x .head .place .0) (x .head .outstanding)
+      (named-by (x .head .place .0) (x .head .outstanding) cack b) R″ M″ out
 
-module _ (x : Sender) (cack : ℕ) (b : Block) (R″ M″ : List ℕ) (out : Moved) (all : RowsRetired x cack b R″ M″ out) where
+module _ (x : Lent) (cack : ℕ) (b : Block) (R″ M″ : List ℕ) (out : Moved) (all : RowsRetired x cack b R″ M″ out) where
   h : Started x
   h = all .started
 
   -- ---- what is named: among the outstanding, as the rule says
   abbrev f : ℕ → Bool
-  f = named-by (x .place .0) (x .outstanding) cack b
+  f = named-by (x .head .place .0) (x .head .outstanding) cack b
 
   abbrev g : ℕ → Bool
   g = named (meaning x) cack b
@@ -121,45 +121,47 @@ module _ (x : Sender) (cack : ℕ) (b : Block) (R″ M″ : List ℕ) (out : Mov
       let t = up-to (meaning x) cack in
       ap₂ (λ (p q : Bool). p || q)
       (ap (ltb (offset x + i)) (reach-is x cack) ∙ leb-same (suc (offset x + i)) (offset x + t) (suc i) t (λ l. omega arith) (λ l. omega arith))
-      (ap (has-bit b) (row-on (x .place .0) i))
+      (ap (has-bit b) (row-on (x .head .place .0) i))
 
   -- past them, none
-  bit-unsent : (i : ℕ) → x .outstanding ≤ i → i < half → unsent (meaning x) (after (x .place .0) (1 + i)) ≡ true
+  bit-unsent : (i : ℕ) → x .head .outstanding ≤ i → i < half → unsent (meaning x) (after (x .head .place .0) (1 + i)) ≡ true
   bit-unsent i l m =
-      let a = x .place .0 in
+      let a = x .head .place .0 in
       let e : distance (after a 1) (after a (1 + i)) ≡ i = ahead-by a 1 (1 + i) (omega arith) (omega arith) ∙ omega arith in
-      is-past (meaning x) a (x .outstanding) (stands x) (after a (1 + i)) (omega (arith, e)) ∙ ap (λ (j : ℕ). not (leb half j)) e ∙ ap not (lt-leb half i m)
+      is-past (meaning x) a (x .head .outstanding) (stands x) (after a (1 + i)) (omega (arith, e)) ∙ ap (λ (j : ℕ). not (leb half j)) e
+      ∙ ap not (lt-leb half i m)
 
   no-unsent-bit : any-set (unsent (meaning x)) b ≡ false
   unfolding names-unsent unsent-bit
   no-unsent-bit = or-false-each (unsent-cack (meaning x) cack) (any-set (unsent (meaning x)) b) (all .none-unsent) .1
 
-  no-bit-past : (i : ℕ) → x .outstanding ≤ i → i < half → has-bit b (after (x .place .0) (1 + i)) ≡ false
+  no-bit-past : (i : ℕ) → x .head .outstanding ≤ i → i < half → has-bit b (after (x .head .place .0) (1 + i)) ≡ false
   unfolding has-bit any-set
   no-bit-past i l m =
-      let q = after (x .place .0) (1 + i) in
+      let q = after (x .head .place .0) (1 + i) in
       let base = b .base .0 in
       let d = distance base q in
       let unsent-at : ℕ → Bool = λ j. bit-at (b .bitmap) j && unsent (meaning x) (after base j) in
       let is-unsent : unsent (meaning x) (after base d) ≡ true =
-      ap (unsent (meaning x)) (distance-after base q (after-lt (x .place .0) (1 + i))) ∙ bit-unsent i l m in
+      ap (unsent (meaning x)) (distance-after base q (after-lt (x .head .place .0) (1 + i))) ∙ bit-unsent i l m in
       never-true (ltb d 64 && bit-at (b .bitmap) d)
       (λ e.
       let each = and-true-each (ltb d 64) (bit-at (b .bitmap) d) e in
       let named-unsent = any-some 64 unsent-at d (ltb-true d 64 (each .0)) (ap₂ (λ (s t : Bool). s && t) (each .1) is-unsent) in
       false≢true (sym no-unsent-bit ∙ named-unsent))
 
-  named-past : (p : ℕ) → offset x + x .outstanding ≤ p → p < 64 * words → f p ≡ false
+  named-past : (p : ℕ) → offset x + x .head .outstanding ≤ p → p < bits (x .retired) → f p ≡ false
   unfolding names
   named-past p l m =
       let i = p - offset x in
       let p-is : p ≡ offset x + i = omega arith in
-      ap₂ (λ (s t : Bool). s || t) (le-ltb p (reach (x .place .0) (x .outstanding) cack) (omega (arith, reach-is x cack, up-to-le x cack)))
-      (ap (has-bit b) (ap (after (row-first (x .place .0))) p-is ∙ row-on (x .place .0) i) ∙ no-bit-past i (omega arith) (omega arith))
+      ap₂ (λ (s t : Bool). s || t) (le-ltb p (reach (x .head .place .0) (x .head .outstanding) cack) (omega (arith, reach-is x cack, up-to-le x cack)))
+      (ap (has-bit b) (ap (after (row-first (x .head .place .0))) p-is ∙ row-on (x .head .place .0) i)
+      ∙ no-bit-past i (omega arith) (omega (arith, h .most)))
 
   -- ---- the rows
-  room-in : offset x + x .outstanding < 64 * words
-  room-in = omega (arith, few x h)
+  room-in : offset x + x .head .outstanding < bits (x .retired)
+  room-in = omega (arith, h .enough, h .room-left)
 
   -- the rows once they are retired, and the place not moved yet
   abbrev R : ℕ → Bool
@@ -171,20 +173,20 @@ module _ (x : Sender) (cack : ℕ) (b : Block) (R″ M″ : List ℕ) (out : Mov
   R-before : (p : ℕ) → p < offset x → R p ≡ true
   R-before p l = ap (λ (t : Bool). t || f p && ltb p (bits (x .retired))) (h .before p l)
 
-  R-in : (i : ℕ) → i < x .outstanding → R (offset x + i) ≡ (at (x .retired) (offset x + i) || g i)
+  R-in : (i : ℕ) → i < x .head .outstanding → R (offset x + i) ≡ (at (x .retired) (offset x + i) || g i)
   R-in i l =
       let p = offset x + i in
       ap (λ (t : Bool). at (x .retired) p || t)
-      (ap₂ (λ (s t : Bool). s && t) (named-in i) (lt-ltb p (bits (x .retired)) (omega (arith, room-in, h .retired-long))) ∙ and-true (g i))
+      (ap₂ (λ (s t : Bool). s && t) (named-in i) (lt-ltb p (bits (x .retired)) (omega (arith, room-in))) ∙ and-true (g i))
 
-  R-unsent : (p : ℕ) → offset x + x .outstanding ≤ p → R p ≡ false
+  R-unsent : (p : ℕ) → offset x + x .head .outstanding ≤ p → R p ≡ false
   R-unsent p l = ap₂ (λ (s t : Bool). s || t) (h .unsent p l) (go (decLt p (bits (x .retired))))
     where
       go : Dec (p < bits (x .retired)) → (f p && ltb p (bits (x .retired))) ≡ false
-      go (yes m) = ap (λ (t : Bool). t && ltb p (bits (x .retired))) (named-past p l (omega (arith, h .retired-long)))
+      go (yes m) = ap (λ (t : Bool). t && ltb p (bits (x .retired))) (named-past p l m)
       go (no m) = ap (λ (t : Bool). f p && t) (le-ltb p (bits (x .retired)) (omega arith)) ∙ and-false (f p)
 
-  M-unsent : (p : ℕ) → offset x + x .outstanding ≤ p → M p ≡ false
+  M-unsent : (p : ℕ) → offset x + x .head .outstanding ≤ p → M p ≡ false
   M-unsent p l = ap (λ (t : Bool). t && not (f p)) (h .mark-unsent p l)
 
   not-both-in : (p : ℕ) → (R p && M p) ≡ false
@@ -195,7 +197,7 @@ module _ (x : Sender) (cack : ℕ) (b : Block) (R″ M″ : List ℕ) (out : Mov
   abbrev mid : ℕ → Entry
   mid i = record { size = getD (x .sizes) (size-at x i) 0; retired = R (offset x + i); marked = M (offset x + i) }
 
-  mid-is : (i : ℕ) → i < x .outstanding → mid i ≡ cond (g i) (retired (entry x i)) (entry x i)
+  mid-is : (i : ℕ) → i < x .head .outstanding → mid i ≡ cond (g i) (retired (entry x i)) (entry x i)
   unfolding entry
   mid-is i l =
       same-entry refl (R-in i l) (ap (λ (t : Bool). at (x .marked) (offset x + i) && not t) (named-in i))
@@ -206,48 +208,49 @@ module _ (x : Sender) (cack : ℕ) (b : Block) (R″ M″ : List ℕ) (out : Mov
       both s r m true = same-entry refl (or-true r) (and-false m)
       both s r m false = same-entry refl (or-false r) (and-true m)
 
-  retire-is : retire g (meaning x .entries) ≡ table (x .outstanding) mid
+  retire-is : retire g (meaning x .entries) ≡ table (x .head .outstanding) mid
   unfolding meaning
-  retire-is = retire-table g (x .outstanding) (entry x) ∙ sym (table-same (x .outstanding) mid _ mid-is)
+  retire-is = retire-table g (x .head .outstanding) (entry x) ∙ sym (table-same (x .head .outstanding) mid _ mid-is)
 
   -- ---- what is newly retired: over the words as over the entries
-  module _ (w v : ℕ → ℕ) (same : (i : ℕ) → i < x .outstanding → w (offset x + i) ≡ v i) where
-    weigh-in : weigh (bits (x .retired)) (fresh (x .retired) f) w ≡ weigh (x .outstanding) (λ i. g i && not (entry x i .retired)) v
+  module _ (w v : ℕ → ℕ) (same : (i : ℕ) → i < x .head .outstanding → w (offset x + i) ≡ v i) where
+    weigh-in : weigh (bits (x .retired)) (fresh (x .retired) f) w ≡ weigh (x .head .outstanding) (λ i. g i && not (entry x i .retired)) v
     unfolding entry
     weigh-in =
-        total-window (offset x) (x .outstanding) (bits (x .retired)) (λ p. cond (fresh (x .retired) f p) (w p) 0)
+        total-window (offset x) (x .head .outstanding) (bits (x .retired)) (λ p. cond (fresh (x .retired) f p) (w p) 0)
         (λ p l. ap (λ (t : Bool). cond t (w p) 0) (ap (λ (r : Bool). f p && not r) (h .before p l) ∙ and-false (f p)))
-        (λ p l m. ap (λ (t : Bool). cond (t && not (at (x .retired) p)) (w p) 0) (named-past p l (omega (arith, h .retired-long))))
-        (omega (arith, room-in, h .retired-long))
-        ∙ total-same (x .outstanding) _ _ (λ i l. ap₂ (λ (t : Bool) (n : ℕ). cond (t && not (at (x .retired) (offset x + i))) n 0) (named-in i) (same i l))
+        (λ p l m. ap (λ (t : Bool). cond (t && not (at (x .retired) p)) (w p) 0) (named-past p l m))
+        (omega (arith, room-in))
+        ∙ total-same (x .head .outstanding) _ _
+        (λ i l. ap₂ (λ (t : Bool) (n : ℕ). cond (t && not (at (x .retired) (offset x + i))) n 0) (named-in i) (same i l))
 
   newly-is : out .newly ≡ newly g (meaning x .entries)
   unfolding meaning
-  newly-is = all .rows .counted ∙ weigh-in (λ p. 1) (λ i. 1) (λ i l. refl) ∙ sym (newly-table (λ e. 1) g (x .outstanding) (entry x))
+  newly-is = all .rows .counted ∙ weigh-in (λ p. 1) (λ i. 1) (λ i l. refl) ∙ sym (newly-table (λ e. 1) g (x .head .outstanding) (entry x))
 
   alarms-is : out .alarms ≡ false-alarms g (meaning x .entries)
   unfolding meaning entry
   alarms-is =
       all .rows .alarmed ∙ weigh-in (mark-by (x .marked)) (λ i. cond (entry x i .marked) 1 0) (λ i l. refl)
-      ∙ sym (newly-table (λ e. cond (e .marked) 1 0) g (x .outstanding) (entry x))
+      ∙ sym (newly-table (λ e. cond (e .marked) 1 0) g (x .head .outstanding) (entry x))
 
-  bytes-is : out .bytes ≡ weigh (x .outstanding) (λ i. g i && not (entry x i .retired)) (λ i. entry x i .size)
+  bytes-is : out .bytes ≡ weigh (x .head .outstanding) (λ i. g i && not (entry x i .retired)) (λ i. entry x i .size)
   unfolding entry
   bytes-is =
-      let a = x .place .0 in
+      let a = x .head .place .0 in
       all .rows .weighed
       ∙ weigh-in (size-by (x .sizes) (row-first a)) (λ i. getD (x .sizes) (size-at x i) 0)
       (λ i l. ap (λ (n : ℕ). getD (x .sizes) n 0) (row-size a i))
 
-  bytes-split : total (x .outstanding) (λ i. size-held (mid i)) + out .bytes ≡ x .held
+  bytes-split : total (x .head .outstanding) (λ i. size-held (mid i)) + out .bytes ≡ x .head .held
   bytes-split =
-      ap (λ (n : ℕ). total (x .outstanding) (λ i. size-held (mid i)) + n) bytes-is
-      ∙ total-both (x .outstanding) (λ i. size-held (mid i)) _ (λ i. size-held (entry x i))
+      ap (λ (n : ℕ). total (x .head .outstanding) (λ i. size-held (mid i)) + n) bytes-is
+      ∙ total-both (x .head .outstanding) (λ i. size-held (mid i)) _ (λ i. size-held (entry x i))
       (λ i l. ap (λ (e : Entry). size-held e + cond (g i && not (entry x i .retired)) (entry x i .size) 0) (mid-is i l)
       ∙ held-split (entry x i) (g i) (entry x i .retired) refl)
       ∙ sym (h .held-is)
 
-  pub bytes-le : out .bytes ≤ x .held
+  pub bytes-le : out .bytes ≤ x .head .held
   bytes-le = omega (arith, bytes-split)
 
   -- ---- the place moves over the run of retired, m at the front
@@ -265,23 +268,20 @@ module _ (x : Sender) (cack : ℕ) (b : Block) (R″ M″ : List ℕ) (out : Mov
       go (no k) = let p-is : p ≡ offset x + (p - offset x) = omega arith in ap R p-is ∙ R-run (p - offset x) (omega arith)
 
   R-stop : R (offset x + m) ≡ false
-  R-stop = go (decLt m (x .outstanding))
+  R-stop = go (decLt m (x .head .outstanding))
     where
-      go : Dec (m < x .outstanding) → R (offset x + m) ≡ false
+      go : Dec (m < x .head .outstanding) → R (offset x + m) ≡ false
       go (yes l) = not-true (R (offset x + m)) (all .rows .moved .here l)
       go (no l) = R-unsent (offset x + m) (omega arith)
 
-  lead-is : lead (map is-retired (table (x .outstanding) mid)) ≡ m
-  lead-is = ap lead (map-table is-retired (x .outstanding) mid) ∙ lead-table (x .outstanding) (λ i. R (offset x + i)) m (all .rows .moved)
+  lead-is : lead (map is-retired (table (x .head .outstanding) mid)) ≡ m
+  lead-is = ap lead (map-table is-retired (x .head .outstanding) mid) ∙ lead-table (x .head .outstanding) (λ i. R (offset x + i)) m (all .rows .moved)
 
   -- ---- the record after
-  module _ (now : Psn) (now-is : now .0 ≡ after (x .place .0) m) where
-    abbrev pub acknowledged : Sender
+  module _ (now : Psn) (now-is : now .0 ≡ after (x .head .place .0) m) where
+    abbrev pub acknowledged : Lent
     acknowledged = record {
-      room = x .room;
-      place = now;
-      outstanding = x .outstanding - m;
-      held = x .held - out .bytes;
+      head = record { room = x .head .room; place = now; outstanding = x .head .outstanding - m; held = x .head .held - out .bytes };
       sizes = x .sizes;
       retired = R″;
       marked = M″;
@@ -289,10 +289,10 @@ module _ (x : Sender) (cack : ℕ) (b : Block) (R″ M″ : List ℕ) (out : Mov
 
     -- the first bit that is left
     abbrev q : ℕ
-    q = front (x .place .0) m
+    q = front (x .head .place .0) m
 
     offset-is : offset acknowledged ≡ (offset x + m) % 64
-    offset-is = ap (λ (n : ℕ). (n + 1) % 64) now-is ∙ offset-on (x .place .0) m ∙ back (x .place .0) m
+    offset-is = ap (λ (n : ℕ). (n + 1) % 64) now-is ∙ offset-on (x .head .place .0) m ∙ back (x .head .place .0) m
       where
         back : (a k : ℕ) → (a + 1 + k) % 64 ≡ ((a + 1) % 64 + k) % 64
         back a k = omega arith
@@ -303,7 +303,7 @@ module _ (x : Sender) (cack : ℕ) (b : Block) (R″ M″ : List ℕ) (out : Mov
     entry-is : (i : ℕ) → entry acknowledged i ≡ mid (m + i)
     unfolding entry
     entry-is i =
-        same-entry (ap (λ (n : ℕ). getD (x .sizes) n 0) (ap (λ (n : ℕ). (n + 1 + i) % largest-room) now-is ∙ size-at-on (x .place .0) m i))
+        same-entry (ap (λ (n : ℕ). getD (x .sizes) n 0) (ap (λ (n : ℕ). (n + 1 + i) % largest-room) now-is ∙ size-at-on (x .head .place .0) m i))
         (all .rows .retired-are .bits-are (offset acknowledged + i) ∙ ap R (bit-is i))
         (all .rows .marked-are .bits-are (offset acknowledged + i) ∙ ap M (bit-is i))
 
@@ -312,15 +312,16 @@ module _ (x : Sender) (cack : ℕ) (b : Block) (R″ M″ : List ℕ) (out : Mov
     acknowledged-means =
         let moves : lead (map is-retired (retire g (meaning x .entries))) ≡ m = ap (λ (l : List Entry). lead (map is-retired l)) retire-is ∙ lead-is in
         λ j. record {
-          room = x .room;
-          place = (now-is ∙ ap (after (x .place .0)) (sym moves)) j;
-          entries = (table-same (x .outstanding - m) (entry acknowledged) (λ i. mid (m + i)) (λ i p. entry-is i) ∙ sym (drop-table m (x .outstanding) mid)
+          room = x .head .room;
+          place = (now-is ∙ ap (after (x .head .place .0)) (sym moves)) j;
+          entries = (table-same (x .head .outstanding - m) (entry acknowledged) (λ i. mid (m + i)) (λ i p. entry-is i)
+              ∙ sym (drop-table m (x .head .outstanding) mid)
               ∙ sym (ap₂ (λ (n : ℕ) (l : List Entry). drop n l) moves retire-is)) j;
         }
 
-    held-is : x .held - out .bytes ≡ total (x .outstanding - m) (λ i. size-held (entry acknowledged i))
+    held-is : x .head .held - out .bytes ≡ total (x .head .outstanding - m) (λ i. size-held (entry acknowledged i))
     held-is =
-        let n = x .outstanding in
+        let n = x .head .outstanding in
         let w : ℕ → ℕ = λ i. size-held (mid i) in
         let n-is : m + (n - m) ≡ n = omega (arith, all .rows .moved .within) in
         let front : total m w ≡ 0 = total-none m w (λ i l. retired-holds (mid i) (R-run i l)) in
@@ -332,11 +333,12 @@ module _ (x : Sender) (cack : ℕ) (b : Block) (R″ M″ : List ℕ) (out : Mov
     pub acknowledged-started : Started acknowledged
     acknowledged-started = record {
       room-good = h .room-good;
-      place-low = subst (λ (n : ℕ). n < turn) (sym now-is) (after-lt (x .place .0) m);
+      place-low = subst (λ (n : ℕ). n < turn) (sym now-is) (after-lt (x .head .place .0) m);
       room-left = omega (arith, h .room-left);
       sizes-long = h .sizes-long;
-      retired-long = all .rows .retired-are .long ∙ h .retired-long;
-      marked-long = all .rows .marked-are .long ∙ h .marked-long;
+      enough = omega (arith, h .enough, all .rows .retired-are .long);
+      most = omega (arith, h .most, all .rows .retired-are .long);
+      marked-long = all .rows .marked-are .long ∙ h .marked-long ∙ sym (all .rows .retired-are .long);
       before = λ p l. all .rows .retired-are .bits-are p ∙ R-up (q + p) (omega (arith, offset-is));
       first-open = all .rows .retired-are .bits-are (offset acknowledged) ∙ ap R open-is ∙ R-stop;
       unsent = λ p l. all .rows .retired-are .bits-are p ∙ R-unsent (q + p) (omega (arith, offset-is, all .rows .moved .within));
@@ -354,8 +356,9 @@ module _ (x : Sender) (cack : ℕ) (b : Block) (R″ M″ : List ℕ) (out : Mov
     unfolding meaning
     place-is = ap (λ (y : rule.Sender). y .place) acknowledged-means
 
-    pub acknowledged-reports : record { newly = out .newly; place = now; held = x .held - out .bytes; alarms = out .alarms } ≡ report (meaning x) cack b
+    pub acknowledged-reports : record { newly = out .newly; place = now; held = x .head .held - out .bytes; alarms = out .alarms } ≡ report (meaning x) cack b
     unfolding report
     acknowledged-reports =
-        let held-after : x .held - out .bytes ≡ held (after-sack (meaning x) cack b) = held-is ∙ sym (held-total acknowledged) ∙ ap held acknowledged-means in
+        let held-after : x .head .held - out .bytes ≡ held (after-sack (meaning x) cack b) =
+        held-is ∙ sym (held-total acknowledged) ∙ ap held acknowledged-means in
         λ i. record { newly = newly-is i; place = psn (place-is i); held = held-after i; alarms = alarms-is i }

@@ -1,0 +1,2 @@
+-- What a head over its rows means, and which there are.
+pub mod Lent
