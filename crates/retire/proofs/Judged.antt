@@ -13,13 +13,12 @@ use Rattle.psn.proofs.Circle.{distance-on}
 use Rattle.lists.specs.Lists.{any}
 use Rattle.lists.proofs.Lists.{any-none, any-some}
 use Rattle.word.specs.Word.{bit-at, Bits}
-use Rattle.word.proofs.Bits.{bit-none, first-bit}
+use Rattle.word.proofs.Bits.{bit-none, first-bit, some-bit}
 use Rattle.rules.specs.Sender.{Sender, index, unsent}
 use Rattle.rules.specs.Retire.{any-set, at-odds, contradicts, unsent-cack, unsent-bit, names-unsent}
 use Rattle.rules.specs.declared.Block.{Block}
 use Rattle.retire.specs.Rows.{ahead}
 use Rattle.retire.specs.Front.{Stands}
-use Rattle.retire.proofs.Walk.{some-bit}
 
 -- a word is 0 where none of its bits is set
 any-bit : (w : ℕ) (f : ℕ → Bool) → w < 2 ^ 64 → Bits w f → not (eqb w 0) ≡ any 64 f
@@ -36,6 +35,13 @@ any-bit w f small e = go (ℕ-discrete w 0)
 any-set-is : (w : ℕ) (f : ℕ → Bool) (b : Block) → w < 2 ^ 64 → Bits w (λ j. bit-at (b .bitmap) j && f (after (b .base .0) j)) → not (eqb w 0) ≡ any-set f b
 unfolding any-set
 any-set-is w f b small e = any-bit w (λ j. bit-at (b .bitmap) j && f (after (b .base .0) j)) small e
+
+-- a block without a set bit has none that passes
+pub none-set : (f : ℕ → Bool) (b : Block) → b .bitmap ≡ 0 → any-set f b ≡ false
+unfolding any-set
+none-set f b e =
+    any-none 64 (λ j. bit-at (b .bitmap) j && f (after (b .base .0) j))
+    (λ j l. ap (λ (t : Bool). t && f (after (b .base .0) j)) (ap (λ (w : ℕ). bit-at w j) e ∙ bit-none j))
 
 -- ---- what lies at 0 or 1 from cack, or behind it, does not lie 2 or more ahead
 not-ahead : (d : ℕ) → not (ahead 2 d) ≡ (leb d 1 || leb half d)
@@ -90,22 +96,29 @@ module _ (x : Sender) (place n : ℕ) (h : Stands x place n) where
         both : past-cack ≡ true
         both = rw (lt-ltb n d k, lt-leb half d l)
 
-    -- it is not, and a bit is or is not: o is the index of the block's base, and w has the set bits that are unsent
-    pub unsent-by-bit : (n < d → d < half → ⊥) → (o w : ℕ) → o ≡ distance (after place 1) (b .base .0) → w < 2 ^ 64
-        → Bits w (λ j. bit-at (b .bitmap) j && ahead n ((o + j) % turn)) → not (eqb w 0) ≡ names-unsent x cack b
-    unfolding names-unsent unsent-bit
-    unsent-by-bit near o w o-is small e =
-        any-set-is w (unsent x) b small
-        (λ j l. e j l ∙ ap (λ (t : Bool). bit-at (b .bitmap) j && t) (ap (ahead n) (at j) ∙ sym (unsent-is (after (b .base .0) j))))
-        ∙ ap (λ (t : Bool). t || any-set (unsent x) b) (sym (cack-is ∙ not-past (decLt n d)))
-      where
-        at : (j : ℕ) → (o + j) % turn ≡ distance (after place 1) (after (b .base .0) j)
-        at j = ap (λ (i : ℕ). (i + j) % turn) o-is ∙ distance-on (after place 1) (b .base .0) j
+    -- it is not: n outstanding reach to it, or it is behind
+    module _ (near : n < d → d < half → ⊥) where
+      cack-sent : unsent-cack x cack ≡ false
+      cack-sent = cack-is ∙ not-past (decLt n d) (decLt d half)
+        where
+          not-past : Dec (n < d) → Dec (d < half) → past-cack ≡ false
+          not-past (yes k) (yes l) = absurd (near k l)
+          not-past (yes k) (no l) = rw (lt-ltb n d k, le-leb half d (omega arith))
+          not-past (no k) l = rw (le-ltb n d (omega arith))
 
-        not-past : Dec (n < d) → past-cack ≡ false
-        not-past (yes k) = far (decLt d half)
-          where
-            far : Dec (d < half) → past-cack ≡ false
-            far (yes l) = absurd (near k l)
-            far (no l) = rw (lt-ltb n d k, le-leb half d (omega arith))
-        not-past (no k) = rw (le-ltb n d (omega arith))
+      -- no bit is set
+      pub unsent-by-none : b .bitmap ≡ 0 → names-unsent x cack b ≡ false
+      unfolding names-unsent unsent-bit
+      unsent-by-none e = ap₂ (λ (s t : Bool). s || t) cack-sent (none-set (unsent x) b e)
+
+      -- a bit is unsent or none is: o is the index of the block's base, and w has the set bits that are unsent
+      pub unsent-by-bit : (o w : ℕ) → o ≡ distance (after place 1) (b .base .0) → w < 2 ^ 64
+          → Bits w (λ j. bit-at (b .bitmap) j && ahead n ((o + j) % turn)) → not (eqb w 0) ≡ names-unsent x cack b
+      unfolding names-unsent unsent-bit
+      unsent-by-bit o w o-is small e =
+          any-set-is w (unsent x) b small
+          (λ j l. e j l ∙ ap (λ (t : Bool). bit-at (b .bitmap) j && t) (ap (ahead n) (at j) ∙ sym (unsent-is (after (b .base .0) j))))
+          ∙ ap (λ (t : Bool). t || any-set (unsent x) b) (sym cack-sent)
+        where
+          at : (j : ℕ) → (o + j) % turn ≡ distance (after place 1) (after (b .base .0) j)
+          at j = ap (λ (i : ℕ). (i + j) % turn) o-is ∙ distance-on (after place 1) (b .base .0) j

@@ -1,17 +1,17 @@
--- The bits that a SACK names, counted from where a word or a block begins: each test is moved to the other's count. Assumes nothing.
+-- Which bits of a block lie ahead of a packet number, and where the size of a packet number stands. Assumes nothing.
 use mathlib.Core.Path.{_≡_, sym, ap, ap₂, _∙_}
 use mathlib.Core.Bool.{Bool, false, _&&_, and-true, and-false}
-use Prim.Native.Nat.{ℕ, suc, _+_, _-_, _*_, _/_, _%_, _^_, _≤_, _<_}
+use Prim.Native.Nat.{ℕ, suc, _+_, _-_, _%_, _≤_, _<_}
 use native.Mathlib.Omega.{arith}
 use native.Mathlib.Decide.{decLt}
 use lib.Dec.{leb}
-use borrow.Author.Tests.{lt-ltb, le-ltb, le-leb, lt-leb}
+use borrow.Author.Tests.{lt-ltb, le-leb, lt-leb}
 use Rattle.psn.specs.Psn.{turn, half, after}
 use Rattle.word.specs.Word.{bit-at, in-range}
 use Rattle.word.proofs.Compare.{leb-same, leb-not}
-use Rattle.word.proofs.Bits.{bit-none, bit-past, bit-shr, bit-mod, bit-shl-low, bit-shl-high}
+use Rattle.word.proofs.Bits.{bit-none}
 use Rattle.rules.specs.Numbers.{largest-room}
-use Rattle.retire.specs.Rows.{ahead, bit-of-block}
+use Rattle.retire.specs.Rows.{ahead}
 
 -- ---- which bits of a block lie n or more ahead of a packet number, after which it begins by o
 module _ (o n j : ℕ) (l : j < 64) where
@@ -45,35 +45,6 @@ ahead-none n i j h = bit-none j ∙ sym (go (decLt i n))
 -- the block's begin may be given by any number
 pub turned-in : (o j : ℕ) → (o % turn + j) % turn ≡ (o + j) % turn
 turned-in o j = omega arith
-
--- ---- a block's bits in the word that begins q after its base
-module _ (b i : ℕ) (small : b < 2 ^ 64) (l : i < 64) (q : ℕ) where
-  past : (d : ℕ) → 64 ≤ d → bit-of-block b d ≡ false
-  past d h = rw (le-ltb d 64 h)
-
-  pub placed-up : q < 64 → bit-at (b / 2 ^ q) i ≡ bit-of-block b ((q + i) % turn)
-  placed-up h = bit-shr b q i ∙ go (decLt (q + i) 64) ∙ ap (bit-of-block b) same
-    where
-      same : q + i ≡ (q + i) % turn
-      same = omega arith
-
-      go : Dec (q + i < 64) → bit-at b (q + i) ≡ bit-of-block b (q + i)
-      go (yes m) = rw (lt-ltb (q + i) 64 m)
-      go (no m) = bit-past 64 b (q + i) small (omega arith) ∙ sym (past (q + i) (omega arith))
-
-  pub placed-down : (k : ℕ) → q < turn → k ≡ turn - q → k < 64 → bit-at ((b * 2 ^ k) % 2 ^ 64) i ≡ bit-of-block b ((q + i) % turn)
-  placed-down k h e m = bit-mod 64 (b * 2 ^ k) i l ∙ go (decLt i k)
-    where
-      go : Dec (i < k) → bit-at (b * 2 ^ k) i ≡ bit-of-block b ((q + i) % turn)
-      go (yes n) = bit-shl-low b k i n ∙ sym (past ((q + i) % turn) (omega arith))
-      go (no n) =
-          let r = i - k in
-          let i-is : i ≡ k + r = omega arith in
-          let d-is : (q + i) % turn ≡ r = omega arith in
-          ap (bit-at (b * 2 ^ k)) i-is ∙ bit-shl-high b k r ∙ sym (rw (d-is, lt-ltb r 64 (omega arith)))
-
-  pub placed-off : q < turn → 64 ≤ q → 64 ≤ turn - q → bit-at 0 i ≡ bit-of-block b ((q + i) % turn)
-  placed-off h k m = bit-none i ∙ sym (past ((q + i) % turn) (omega arith))
 
 -- ---- where the size of a packet number stands
 pub size-on : (first a i : ℕ) → (after first a + i) % largest-room ≡ (first + (a + i)) % largest-room

@@ -2,8 +2,8 @@
 use mathlib.Core.Path.{_≡_}
 use mathlib.Core.Bool.{Bool, not, cond, _&&_, _||_}
 use mathlib.Core.List.{List}
-use Prim.Native.Nat.{ℕ, _+_, _%_, _≤_}
-use lib.Dec.{leb, ltb}
+use Prim.Native.Nat.{ℕ, _+_, _/_, _%_, _^_, _≤_, _<_}
+use lib.Dec.{leb, ltb, eqb}
 use lib.ListN.{length, getD}
 use Rattle.psn.specs.Psn.{half, after}
 use Rattle.lists.specs.Index.{tally, weigh}
@@ -19,13 +19,17 @@ use Rattle.retire.specs.declared.Sum.{Sum}
 abbrev pub ahead : ℕ → ℕ → Bool
 ahead n i = leb n i && not (leb half i)
 
--- bit d of a block of 64, and none past it
-abbrev pub bit-of-block : ℕ → ℕ → Bool
-bit-of-block bitmap d = ltb d 64 && bit-at bitmap d
+-- is bit p named by a set bit of the block
+abbrev pub named-by-block : ℕ → Block → ℕ → Bool
+named-by-block first b p = has-bit b (after first p)
 
--- is bit p named: below upto, or by a set bit of the block
+-- is it named: below upto, or so
 unfoldable pub names : ℕ → ℕ → Block → ℕ → Bool
-names first upto b p = ltb p upto || has-bit b (after first p)
+names first upto b p = ltb p upto || named-by-block first b p
+
+-- the bits of the word w, as the j-th of a row
+abbrev pub in-word : ℕ → ℕ → ℕ → Bool
+in-word j w p = eqb (p / 64) j && bit-at w (p % 64)
 
 -- the size of the packet number of bit p: sizes stand by PSN modulo the largest room
 abbrev pub size-by : List ℕ → ℕ → ℕ → ℕ
@@ -44,6 +48,18 @@ pub record Alike (retired marked sizes : List ℕ) : Type 0 where
   pub marked-long : length marked ≡ length retired
   pub retired-long : length retired ≤ longest-weighed
   pub sizes-long : length sizes ≡ largest-room
+
+-- nothing counted, two counts added up, and counts of 32 bits
+abbrev pub nothing : Sum
+nothing = record { newly = 0; alarms = 0; bytes = 0 }
+
+abbrev pub added : Sum → Sum → Sum
+added a b = record { newly = a .newly + b .newly; alarms = a .alarms + b .alarms; bytes = a .bytes + b .bytes }
+
+pub record Fits (r : Sum) : Type 0 where
+  pub newly-fits : r .newly < 2 ^ 32
+  pub alarms-fits : r .alarms < 2 ^ 32
+  pub bytes-fits : r .bytes < 2 ^ 32
 
 -- one word: what is named is retired and unmarked, and what was not retired before is fresh
 pub record OneRetired (retired marked named : ℕ) (r : Retired) : Type 0 where

@@ -9,7 +9,7 @@ ghost use Rattle.row.specs.Row.{longest};
 ghost use Rattle.rules.specs.Numbers.{largest-room};
 ghost use Rattle.rules.specs.Sender.{Sender, unsent as unsent-of};
 ghost use Rattle.rules.specs.Retire.{contradicts as contradicts-of, names-unsent};
-ghost use Rattle.retire.specs.Rows.{ahead, bit-of-block, names, size-by, Alike, OneRetired, Retires};
+ghost use Rattle.retire.specs.Rows.{added, ahead, in-word, named-by-block, names, nothing, size-by, Alike, Fits, OneRetired, Retires};
 ghost use Rattle.retire.specs.Front.{named-by, Stands, Ready, Moves};
 use psn::HALF;
 use psn::Psn;
@@ -39,6 +39,9 @@ fn bits_ahead(o: u32, n: u32) -> u64
 pub fn contradicts(cack: Psn, block: Block) -> bool
     ensures { λ r. ⌜ r ≡ contradicts-of (cack .0) block ⌝ }
 {
+    if block.bitmap == 0 {
+        return false;
+    }
     let base = block.base;
     let o = cack.distance(base);
     word::without(block.bitmap, bits_ahead(o, 2)) != 0
@@ -65,51 +68,26 @@ pub fn names_unsent(place: Psn, n: u32, cack: Psn, block: Block) -> bool
             return true;
         }
     }
+    if block.bitmap == 0 {
+        return false;
+    }
     let base = block.base;
     let o = place.after(1).distance(base);
     (block.bitmap & bits_ahead(o, n)) != 0
 }
 
-// A block's bits as they stand in the word that begins q after the block's base.
-fn placed(bitmap: u64, q: u32) -> u64
-    requires { ⌜ q < turn ⌝ }
-    ensures { λ r. ⌜ Bits r (λ i. bit-of-block bitmap ((q + i) % turn)) ⌝ }
-{
-    if q < 64 {
-        return bitmap >> q;
-    }
-    let back = TURN - q;
-    if back < 64 {
-        return bitmap << back;
-    }
-    0
-}
-
-// The bits that a SACK names in word j: those below upto, and those of its block.
-fn named(j: u32, first: Psn, upto: u32, block: Block) -> u64
-    requires { ⌜ j ≤ longest ⌝ }
-    ensures { λ r. ⌜ Bits r (λ b. names (first .0) upto block (64 * j + b)) ⌝ }
-{
-    let base = block.base;
-    let q = base.distance(first.after(64 * j));
-    row::range(j, 0, upto) | placed(block.bitmap, q)
-}
-
-// The sizes of a word's set bits added up; first is the packet number of its lowest bit.
+// The sizes of a word's set bits added up, each looked at once; first is the packet number of its lowest bit.
 fn bytes(sizes: &[u16], first: Psn, word: u64) -> u32
     requires { ⌜ length (now sizes) ≡ largest-room ⌝ }
     ensures { λ r. ⌜ r ≡ weigh 64 (bit-at word) (size-by (now (sizes .entry)) (first .0)) ⌝ }
 {
     let start = first.0 % LARGEST_ROOM;
     let mut left = word;
-    let mut b: u32 = 0;
     let mut sum: u32 = 0;
     while left != 0 {
-        let t = word::lowest(left);
-        let k = ((start + (b + t)) % LARGEST_ROOM) as usize;
+        let k = ((start + word::lowest(left)) % LARGEST_ROOM) as usize;
         sum += sizes[k] as u32;
-        left = (left >> t) >> 1;
-        b += t + 1;
+        left = word::without_lowest(left);
     }
     sum
 }
@@ -144,7 +122,93 @@ pub struct Sum {
     pub bytes: u32,
 }
 
-// All that a SACK names is retired, word by word.
+fn none() -> Sum
+    ensures { λ r. ⌜ r ≡ nothing ⌝ }
+{
+    Sum {
+        newly: 0,
+        alarms: 0,
+        bytes: 0,
+    }
+}
+
+fn plus(a: Sum, b: Sum) -> Sum
+    requires { ⌜ Fits (added a b) ⌝ }
+    ensures { λ r. ⌜ r ≡ added a b ⌝ }
+{
+    Sum {
+        newly: a.newly + b.newly,
+        alarms: a.alarms + b.alarms,
+        bytes: a.bytes + b.bytes,
+    }
+}
+
+// What a SACK names in word j is retired. Past the rows' end there is nothing.
+fn in_word(
+    retired: &mut [u64],
+    marked: &mut [u64],
+    sizes: &[u16],
+    first: Psn,
+    j: usize,
+    named: u64,
+) -> Sum
+    requires { ⌜ Alike (now retired) (now marked) (now sizes) ⌝ }
+    ensures { λ r. ⌜
+        Retires (now (retired .entry)) (now (marked .entry)) (now (sizes .entry)) (first .0) (in-word j named)
+        (now (retired .exit)) (now (marked .exit)) r
+        ⌝ }
+{
+    if retired.len() <= j {
+        return none();
+    }
+    let out = one(retired[j], marked[j], named);
+    retired[j] = out.retired;
+    marked[j] = out.marked;
+    Sum {
+        newly: out.newly,
+        alarms: out.alarms,
+        bytes: bytes(sizes, first.after(64 * (j as u32)), out.fresh),
+    }
+}
+
+// What a block names is retired. It lies in two words, and past the circle's end the second is the row's first.
+fn by_block(retired: &mut [u64], marked: &mut [u64], sizes: &[u16], first: Psn, block: Block) -> Sum
+    requires { ⌜ Alike (now retired) (now marked) (now sizes) ⌝ }
+    ensures { λ r. ⌜
+        Retires (now (retired .entry)) (now (marked .entry)) (now (sizes .entry)) (first .0) (named-by-block (first .0) block)
+        (now (retired .exit)) (now (marked .exit)) r
+        ⌝ }
+{
+    let bitmap = block.bitmap;
+    if bitmap == 0 {
+        return none();
+    }
+    let base = block.base;
+    let o = first.distance(base);
+    let low = in_word(
+        retired,
+        marked,
+        sizes,
+        first,
+        (o / 64) as usize,
+        bitmap << (o % 64),
+    );
+    let rest = (bitmap >> 1) >> (63 - o % 64);
+    if rest == 0 {
+        return low;
+    }
+    let high = in_word(
+        retired,
+        marked,
+        sizes,
+        first,
+        ((o / 64 + 1) % (TURN / 64)) as usize,
+        rest,
+    );
+    plus(low, high)
+}
+
+// All that a SACK names is retired: in the words from the rows' first to cack's, and in those of its block.
 fn retire(
     retired: &mut [u64],
     marked: &mut [u64],
@@ -153,32 +217,28 @@ fn retire(
     upto: u32,
     block: Block,
 ) -> Sum
-    requires { ⌜ Alike (now retired) (now marked) (now sizes) ⌝ }
+    requires { ⌜ Alike (now retired) (now marked) (now sizes) × (upto ≤ 64 * longest) ⌝ }
     ensures { λ r. ⌜
         Retires (now (retired .entry)) (now (marked .entry)) (now (sizes .entry)) (first .0) (names (first .0) upto block)
         (now (retired .exit)) (now (marked .exit)) r
         ⌝ }
 {
-    let n = retired.len();
-    let mut newly: u32 = 0;
-    let mut alarms: u32 = 0;
-    let mut sum: u32 = 0;
-    let mut j: usize = 0;
-    while j < n {
-        let at = j as u32;
-        let out = one(retired[j], marked[j], named(at, first, upto, block));
-        retired[j] = out.retired;
-        marked[j] = out.marked;
-        newly += out.newly;
-        alarms += out.alarms;
-        sum += bytes(sizes, first.after(64 * at), out.fresh);
+    let mut sum = none();
+    let mut j: u32 = 0;
+    while 64 * j < upto {
+        let more = in_word(
+            retired,
+            marked,
+            sizes,
+            first,
+            j as usize,
+            row::range(j, 0, upto),
+        );
+        sum = plus(sum, more);
         j += 1;
     }
-    Sum {
-        newly,
-        alarms,
-        bytes: sum,
-    }
+    let more = by_block(retired, marked, sizes, first, block);
+    plus(sum, more)
 }
 
 // How many packets are newly retired, how many of them were marked, their bytes, and how far the place moves.
@@ -190,7 +250,7 @@ pub struct Moved {
 }
 
 // The rows begin at place + 1's own block of 64, and n are outstanding. All that a SACK names is retired, and where the place moves into
-// another block of 64, the words before that go.
+// another block of 64, the words before that go. A SACK without a bit whose cack is none of the n names nothing that is not retired.
 pub fn acknowledge(
     retired: &mut [u64],
     marked: &mut [u64],
@@ -207,10 +267,20 @@ pub fn acknowledge(
         ⌝ }
 {
     let s = (place.0 + 1) % 64;
-    let d = place.distance(cack);
-    let mut upto = s;
-    if d <= n {
-        upto = s + d;
+    let ahead = place.after(1).distance(cack);
+    let mut upto = 0;
+    if ahead < n {
+        upto = s + 1 + ahead;
+    } else {
+        let named = block.bitmap;
+        if named == 0 {
+            return Moved {
+                newly: 0,
+                alarms: 0,
+                bytes: 0,
+                by: 0,
+            };
+        }
     }
     let out = retire(
         retired,
@@ -220,7 +290,7 @@ pub fn acknowledge(
         upto,
         block,
     );
-    let t = row::run(retired, s + n);
+    let t = row::run_from(retired, s, row::test(retired, s), s + n);
     row::shed(retired, (t / 64) as usize);
     row::shed(marked, (t / 64) as usize);
     let by = t - s;

@@ -1,27 +1,28 @@
--- `retire::acknowledge` meets its contract: the rows are retired up to where cack reaches and by the block, run and shed. Assumes nothing.
-use mathlib.Core.Path.{_≡_, sym, _∙_}
+-- `retire::acknowledge` meets its contract: a SACK that names nothing moves nothing, and else the rows are retired up to where cack reaches and by
+-- the block, run and shed. Assumes nothing.
+use mathlib.Core.Path.{_≡_, refl, sym, ap, subst, _∙_}
 use mathlib.Core.Logic.{⊎-elim}
-use Rattle.retire.specs.Rows.{Retires}
-use Rattle.retire.specs.Front.{reach, row-first, named-by}
-use Rattle.retire.proofs.Front.{reaches, reaches-none, at-front, past-place, moves}
+use Prim.Native.Nat.{ℕ, _≤_}
+use native.Mathlib.Omega.{arith}
+use Rattle.psn.specs.Psn.{after, distance}
+use Rattle.psn.proofs.Circle.{distance-lt}
+use Rattle.retire.specs.Rows.{names, Retires}
+use Rattle.retire.specs.Front.{offset, reach, row-first, named-by}
+use Rattle.retire.proofs.Front.{reaches, reaches-none, at-front, before-place, then-before, past-place, moves, nothing-moves}
 use borrow.Author.Needs.{needs}
 use Rattle.retire.proofs.acknowledge.Statement.{statement}
 use Rattle.retire.proofs.acknowledge.Tie as tie
 
--- how far the rows are retired
-abbrev joined : tie.Joined1 → tie.Start
-joined c = c .before .before .before .before .before .before
+-- where cack lies, from place + 1
+abbrev asked : tie.After-distance → tie.Start
+asked c = c .before .before .before .before .before .before
 
-upto-is : (c : tie.Joined1) → c .if1 .upto ≡ reach (joined c .args .place .0) (joined c .args .n) (joined c .args .cack .0)
-upto-is c =
-    let a = joined c .args in
-    let d = c .before .distance in
-    ⊎-elim (λ w. w .1 ∙ sym (reaches (a .place .0) (a .n) (a .cack .0) (d .result) (d .ensures) (w .0 .taken)))
-    (λ w. w .1 ∙ sym (reaches-none (a .place .0) (a .n) (a .cack .0) (d .result) (d .ensures) (w .0 .left))) (c .if1 .came)
+index-is : (c : tie.After-distance) → c .distance .result ≡ distance (after (asked c .args .place .0) 1) (asked c .args .cack .0)
+index-is c = c .distance .ensures ∙ ap (λ (p : ℕ). distance p (asked c .args .cack .0)) (c .before .after .ensures)
 
 -- the rows once they are retired
 abbrev start : tie.After-retire → tie.Start
-start c = c .before .before .before .before .before .before .before .before .before .before
+start c = c .before .before .before .before .before .before .before .before .before .before .before
 
 rows : (c : tie.After-retire)
     → Retires (start c .args .retired .now) (start c .args .marked .now) (start c .args .sizes .now) (row-first (start c .args .place .0))
@@ -29,11 +30,32 @@ rows : (c : tie.After-retire)
     (c .retire .last .0) (c .retire .last .1 .0) (c .retire .result)
 rows c =
     let a = start c .args in
-    at-front (a .retired .now) (a .marked .now) (a .sizes .now) (a .place .0) (a .n) (a .cack .0) (a .block) _ _ _ _ _
-    (c .before .after .ensures) (upto-is (c .before .before .before .before)) (c .retire .ensures)
+    let pre = start c .pre in
+    let place = a .place .0 in
+    let joined = c .before .before .before .before in
+    let i = joined .before in
+    let retired = a .retired .now in
+    let marked = a .marked .now in
+    let sizes = a .sizes .now in
+    let R = c .retire .last .0 in
+    let M = c .retire .last .1 .0 in
+    let out = c .retire .result in
+    let done : Retires retired marked sizes (row-first place) (names (row-first place) (joined .if1 .upto) (a .block)) R M out =
+    subst (λ (p : ℕ). Retires retired marked sizes p (names p (joined .if1 .upto) (a .block)) R M out) (c .before .after2 .ensures) (c .retire .ensures) in
+    let to : (upto : ℕ) → joined .if1 .upto ≡ upto → Retires retired marked sizes (row-first place) (names (row-first place) upto (a .block)) R M out =
+    λ upto e. subst (λ (u : ℕ). Retires retired marked sizes (row-first place) (names (row-first place) u (a .block)) R M out) e done in
+    ⊎-elim
+    (λ w. at-front retired marked sizes place (a .n) (a .cack .0) (a .block) R M out (row-first place) _ refl
+    (w .1 ∙ sym (reaches place (a .n) (a .cack .0) (i .distance .result) (index-is i) (pre .few) (w .0 .taken))) done)
+    (λ w. at-front retired marked sizes place (a .n) (a .cack .0) (a .block) R M out (row-first place) (offset place) refl
+    (sym (reaches-none place (a .n) (a .cack .0) (i .distance .result) (index-is i) (pre .few) (w .0 .left)))
+    (before-place retired marked sizes place (a .n) pre (a .block) R M out (to 0 (w .2)))) (joined .if1 .came)
 
 add-s : tie.Need-add-s
 add-s c = search needs
+
+after-requires : tie.Need-after-requires
+after-requires c κs = search needs
 
 distance-requires : tie.Need-distance-requires
 distance-requires c κs = search needs
@@ -41,23 +63,47 @@ distance-requires c κs = search needs
 add-upto : tie.Need-add-upto
 add-upto c = search needs
 
+add-upto-2 : tie.Need-add-upto-2
+add-upto-2 c = search needs
+
+returns : tie.Need-returns
+returns c =
+    let i = c .before .before in
+    let entry = asked i in
+    let a = entry .args in
+    nothing-moves (a .retired .now) (a .marked .now) (a .sizes .now) (a .place .0) (a .n) (a .cack .0) (a .block) (entry .pre) (c .if2 .taken)
+    (reaches-none (a .place .0) (a .n) (a .cack .0) (i .distance .result) (index-is i) (entry .pre .few) (c .before .if1 .left))
+
 add-after : tie.Need-add-after
 add-after c = search needs
 
 sub-after : tie.Need-sub-after
 sub-after c = search needs
 
-after-requires : tie.Need-after-requires
-after-requires c κs = search needs
+after-requires-2 : tie.Need-after-requires-2
+after-requires-2 c κs = search needs
 
 retire-requires : tie.Need-retire-requires
-retire-requires c κs = search needs
+retire-requires c κs =
+    let joined = c .before .before .before in
+    let entry = asked (joined .before) in (
+      record { marked-long = entry .pre .marked-long; retired-long = entry .pre .retired-long; sizes-long = entry .pre .sizes-long },
+      ⊎-elim (λ w. omega (arith, w .1, w .0 .taken, entry .pre .few)) (λ w. omega (arith, w .2)) (joined .if1 .came),
+    )
 
-add-run : tie.Need-add-run
-add-run c = search needs
+test-requires : tie.Need-test-requires
+test-requires c κs = search needs
 
-run-requires : tie.Need-run-requires
-run-requires c κs = search needs
+add-run-from : tie.Need-add-run-from
+add-run-from c = search needs
+
+run-from-requires : tie.Need-run-from-requires
+run-from-requires c κs =
+    let retired = c .before .before .before .before .before .before in (
+      omega arith,
+      then-before _ _ _ _ _ _ (start retired .pre) _ _ _ (rows retired),
+      sym (c .test .ensures),
+    )
 
 cast-shed : tie.Need-cast-shed
 cast-shed c = search needs
@@ -73,9 +119,9 @@ shed-requires-2 c κs = search needs
 
 sub-by : tie.Need-sub-by
 sub-by c =
-    let retired = c .before .before .before .before .before .before .before .before .before .before .before .before .before .before in
-    let run = c .before .before .before .before .before .before .before .before .run in
-    past-place _ _ _ _ _ _ (start retired .pre) _ _ _ (rows retired) _ (run .ensures)
+    let run = c .before .before .before .before .before .before .before .before in
+    let retired = run .before .before .before .before .before .before .before in
+    past-place _ _ _ _ _ _ (start retired .pre) _ _ _ (rows retired) _ (run .run-from .ensures)
 
 same-length : tie.Need-same-length
 same-length c = search needs
@@ -83,27 +129,31 @@ same-length c = search needs
 same-length-2 : tie.Need-same-length-2
 same-length-2 c = search needs
 
-returns : tie.Need-returns
-returns c =
-    let retired = c .before .before .before .before .before .before .before .before .before .before .before .before .before .before in
-    let run = c .before .before .before .before .before .before .before .before .run in
+returns-2 : tie.Need-returns-2
+returns-2 c =
+    let run = c .before .before .before .before .before .before .before .before in
+    let retired = run .before .before .before .before .before .before .before in
     let R = c .before .before .before .before .before .before .shed in
     let M = c .before .before .shed2 in
-    moves _ _ _ _ _ _ (start retired .pre) _ _ _ (rows retired) _ (run .ensures) (R .last .0) (M .last .0) (R .ensures) (M .ensures)
+    moves _ _ _ _ _ _ (start retired .pre) _ _ _ (rows retired) _ (run .run-from .ensures) (R .last .0) (M .last .0) (R .ensures) (M .ensures)
 
 pub acknowledge-spec : {M : Type 1} → statement M
 acknowledge-spec =
     tie.close
     (tie.spec
     add-s
+    after-requires
     distance-requires
     add-upto
+    add-upto-2
+    returns
     add-after
     sub-after
-    after-requires
+    after-requires-2
     retire-requires
-    add-run
-    run-requires
+    test-requires
+    add-run-from
+    run-from-requires
     cast-shed
     shed-requires
     cast-shed-2
@@ -111,4 +161,4 @@ acknowledge-spec =
     sub-by
     same-length
     same-length-2
-    returns)
+    returns-2)

@@ -1,120 +1,102 @@
--- `retire` meets its contract: the loop has retired the words below j, each as `one` says, and the sums have counted them. Assumes nothing.
-use Prim.Native.Nat.{ℕ, _+_, _-_, _*_, _%_, _≤_}
+-- `retire` meets its contract: the loop has retired what cack names below word j, and then the block names the rest. Assumes nothing.
+use mathlib.Core.Path.{sym, ap, subst, _∙_}
+use mathlib.Core.Bool.{Bool, _||_}
+use Prim.Native.Nat.{ℕ, _+_, _-_, _*_, _≤_, _<_}
 use native.Mathlib.Omega.{arith}
-use lib.ListN.{length, getD}
-use Rattle.word.specs.Word.{bit-at, only-in}
-use Rattle.lists.proofs.Index.{tally-le}
-use Rattle.row.specs.Row.{at}
-use Rattle.rules.specs.Numbers.{largest-room}
-use Rattle.retire.specs.Rows.{fresh, names, mark-by, size-by}
-use Rattle.retire.proofs.Words.{Upto, upto-none, upto-more, all-retired, weigh-le, mark-light}
+use lib.ListN.{getD}
+use Rattle.retire.specs.Rows.{added, names, named-by-block, Alike, Retires}
+use Rattle.retire.proofs.Words.{retires-none, retires-same, retires-both, retires-fits}
+use Rattle.retire.proofs.Reached.{below, below-none, below-more, below-all}
 use borrow.Author.Needs.{needs}
 use Rattle.retire.proofs.retire.Statement.{statement}
 use Rattle.retire.proofs.retire.Tie as tie
 
 abbrev Inv-loop : tie.InvT-loop
-Inv-loop retired₀ marked₀ sizes first upto block n newly₀ alarms₀ sum₀ j₀ retired marked newly alarms sum j =
-    Upto retired₀ marked₀ sizes (first .0) (names (first .0) upto block) j retired marked newly alarms sum
+Inv-loop retired₀ marked₀ sizes first upto block sum₀ j₀ retired marked sum j =
+    (64 * j < upto + 64) × Retires retired₀ marked₀ sizes (first .0) (below upto j) retired marked sum
 
 abbrev μ-loop : tie.MeasureT-loop
-μ-loop retired₀ marked₀ sizes first upto block n newly₀ alarms₀ sum₀ j₀ retired marked newly alarms sum j = length retired₀ - j
+μ-loop retired₀ marked₀ sizes first upto block sum₀ j₀ retired marked sum j = upto - 64 * j
+
+-- the sizes are of 16 bits
+small : (c : tie.After-shared-slice-known Inv-loop μ-loop) (k : ℕ) → getD (c .before .before .before .args .sizes .now) k 0 ≤ 65535
+small c k = omega (arith, c .shared-slice-known .given k)
+
+-- the rows where the loop stands
+alike : (c : tie.At-loop Inv-loop μ-loop) → Alike (c .loop .retired) (c .loop .marked) (c .before .before .before .before .before .args .sizes .now)
+alike c =
+    let pre = c .before .before .before .before .before .pre .0 in
+    let rows = c .loop .inv .1 in
+    record {
+      marked-long = rows .marked-are .long ∙ pre .marked-long ∙ sym (rows .retired-are .long);
+      retired-long = omega (arith, rows .retired-are .long, pre .retired-long);
+      sizes-long = pre .sizes-long;
+    }
+
+-- one word more of what cack names
+more : (c : tie.After-in-word Inv-loop μ-loop)
+    → let l = c .before .before .before .before .before in
+    let a = l .before .before .before .before .before .args in
+    Retires (a .retired .now) (a .marked .now) (a .sizes .now) (a .first .0) (below (a .upto) (l .loop .j + 1))
+    (c .in-word .last .0) (c .in-word .last .1 .0) (added (l .loop .sum) (c .in-word .result))
+more c =
+    let l = c .before .before .before .before .before in
+    let entry = l .before .before .before .before .before in
+    let a = entry .args in
+    let bits = c .before .range in
+    retires-same (a .retired .now) (a .marked .now) (a .sizes .now) (a .first .0) _ _ _ _ _ (entry .pre .0 .marked-long)
+    (λ p h. below-more (a .upto) (l .loop .j) (bits .result) p (bits .ensures))
+    (retires-both (a .retired .now) (a .marked .now) (a .sizes .now) (a .first .0) _ _ _ _ _ _ _ _ (l .loop .inv .1) (c .in-word .ensures))
+
+-- and then what the block does
+all : (c : tie.After-by-block Inv-loop μ-loop)
+    → let l = c .before .before .before .before in
+    let a = l .before .before .before .before .before .args in
+    Retires (a .retired .now) (a .marked .now) (a .sizes .now) (a .first .0) (names (a .first .0) (a .upto) (a .block))
+    (c .by-block .last .0) (c .by-block .last .1 .0) (added (l .loop .sum) (c .by-block .result))
+unfolding names
+all c =
+    let l = c .before .before .before .before in
+    let entry = l .before .before .before .before .before in
+    let a = entry .args in
+    let end = c .before .before .before .loop-test .left in
+    retires-same (a .retired .now) (a .marked .now) (a .sizes .now) (a .first .0) _ _ _ _ _ (entry .pre .0 .marked-long)
+    (λ p h. ap (λ (t : Bool). t || named-by-block (a .first .0) (a .block) p) (below-all (a .upto) (l .loop .j) p end))
+    (retires-both (a .retired .now) (a .marked .now) (a .sizes .now) (a .first .0) _ _ _ _ _ _ _ _ (l .loop .inv .1) (c .by-block .ensures))
+
+none-requires : tie.Need-none-requires Inv-loop μ-loop
+none-requires c κs = search needs
 
 loop-holds : tie.Need-loop-holds Inv-loop μ-loop
-loop-holds c = upto-none _ _ _ _ _
-
-cast-at : tie.Need-cast-at Inv-loop μ-loop
-cast-at c = search needs
-
-mul-one : tie.Need-mul-one Inv-loop μ-loop
-mul-one c = search needs
-
-slice-read-one : tie.Need-slice-read-one Inv-loop μ-loop
-slice-read-one c = search needs
-
-mul-one-2 : tie.Need-mul-one-2 Inv-loop μ-loop
-mul-one-2 c = search needs
-
-slice-read-one-2 : tie.Need-slice-read-one-2 Inv-loop μ-loop
-slice-read-one-2 c = search needs
-
-named-requires : tie.Need-named-requires Inv-loop μ-loop
-named-requires c κs = search needs
-
-one-requires : tie.Need-one-requires Inv-loop μ-loop
-one-requires c κs = search needs
-
-mul-retired : tie.Need-mul-retired Inv-loop μ-loop
-mul-retired c = search needs
-
-slice-write-retired : tie.Need-slice-write-retired Inv-loop μ-loop
-slice-write-retired c = search needs
-
-mul-marked : tie.Need-mul-marked Inv-loop μ-loop
-mul-marked c = search needs
-
-slice-write-marked : tie.Need-slice-write-marked Inv-loop μ-loop
-slice-write-marked c = search needs
-
-add-newly : tie.Need-add-newly Inv-loop μ-loop
-add-newly c =
-    let l = c .before .before .before .before .before .before in
-    let entry = l .before .before .before .before in
-    let named = c .before .before .named .result in
-    let f = names (entry .args .first .0) (entry .args .upto) (entry .args .block) in
-    omega (
-      arith,
-      entry .pre .retired-long,
-      l .loop .inv .within,
-      l .loop .inv .counted,
-      tally-le (64 * l .loop .j) (fresh (entry .args .retired .now) f),
-      c .before .one .ensures .counted,
-      tally-le 64 (only-in named (getD (l .loop .retired) (l .loop .j) 0)),
+loop-holds c =
+    let entry = c .before .before .before .before in
+    let a = entry .args in
+    let none = retires-none (a .retired .now) (a .marked .now) (a .sizes .now) (a .first .0) in (
+      omega arith,
+      subst (Retires (a .retired .now) (a .marked .now) (a .sizes .now) (a .first .0) (below (a .upto) 0) (a .retired .now) (a .marked .now))
+          (sym (c .none .ensures))
+          (retires-same (a .retired .now) (a .marked .now) (a .sizes .now) (a .first .0) _ _ _ _ _ (entry .pre .0 .marked-long)
+          (λ p l. below-none (a .upto) p) none),
     )
 
-add-alarms : tie.Need-add-alarms Inv-loop μ-loop
-add-alarms c =
-    let l = c .before .before .before .before .before .before .before in
-    let entry = l .before .before .before .before in
-    let named = c .before .before .before .named .result in
-    let f = names (entry .args .first .0) (entry .args .upto) (entry .args .block) in
-    omega (
-      arith,
-      entry .pre .retired-long,
-      l .loop .inv .within,
-      l .loop .inv .alarmed,
-      weigh-le (64 * l .loop .j) 1 (fresh (entry .args .retired .now) f) (mark-by (entry .args .marked .now)) (λ p. mark-light (at (entry .args .marked .now) p)),
-      c .before .before .one .ensures .alarmed,
-      weigh-le 64 1 (only-in named (getD (l .loop .retired) (l .loop .j) 0)) _ (λ i. mark-light (bit-at (getD (l .loop .marked) (l .loop .j) 0) i)),
-    )
+mul-loop : tie.Need-mul-loop Inv-loop μ-loop
+mul-loop c = omega (arith, c .loop .inv .0, c .before .before .before .before .before .pre .1)
 
-mul-after : tie.Need-mul-after Inv-loop μ-loop
-mul-after c = search needs
+cast-in-word : tie.Need-cast-in-word Inv-loop μ-loop
+cast-in-word c = search needs
 
-after-requires : tie.Need-after-requires Inv-loop μ-loop
-after-requires c κs = search needs
+range-requires : tie.Need-range-requires Inv-loop μ-loop
+range-requires c κs = search needs
 
-bytes-requires : tie.Need-bytes-requires Inv-loop μ-loop
-bytes-requires c κs = search needs
+in-word-requires : tie.Need-in-word-requires Inv-loop μ-loop
+in-word-requires c κs = alike (c .before .before .before .before)
 
-add-sum : tie.Need-add-sum Inv-loop μ-loop
-add-sum c =
-    let l = c .before .before .before .before .before .before .before .before .before in
-    let entry = l .before .before .before .before in
-    let sizes = entry .args .sizes .now in
-    let first = entry .args .first .0 in
-    let f = names first (entry .args .upto) (entry .args .block) in
-    let read = c .before .before .before .before .before .before .before .before .before .before in
-    let small : (a p : ℕ) → size-by sizes a p ≤ 65535 = λ a p. omega (arith, read .shared-slice-known .given ((a + p) % largest-room)) in
-    let start = c .before .after .result .0 in
-    omega (
-      arith,
-      entry .pre .retired-long,
-      l .loop .inv .within,
-      l .loop .inv .weighed,
-      weigh-le (64 * l .loop .j) 65535 (fresh (entry .args .retired .now) f) (size-by sizes first) (small first),
-      c .bytes .ensures,
-      weigh-le 64 65535 (bit-at (c .before .before .before .before .one .result .fresh)) (size-by sizes start) (small start),
-    )
+plus-requires : tie.Need-plus-requires Inv-loop μ-loop
+plus-requires c κs =
+    let done = c .before .before .before .before in
+    let l = done .before .before .before .before .before in
+    let known = l .before .before in
+    retires-fits _ _ _ _ _ _ _ _ (known .before .before .before .pre .0 .retired-long) (small known) (more done)
 
 add-j : tie.Need-add-j Inv-loop μ-loop
 add-j c = search needs
@@ -124,18 +106,22 @@ loop-less c = search needs
 
 loop-again : tie.Need-loop-again Inv-loop μ-loop
 loop-again c =
-    let l = c .before .before .before .before .before .before .before .before .before in
-    let entry = l .before .before .before .before in
-    let a = entry .args in
-    let f = names (a .first .0) (a .upto) (a .block) in
-    let now = l .loop in
-    let inside = c .before .before .before .before .before .before .before .before .loop-test .taken in
-    let named = c .before .before .before .before .before .named in
-    let out = c .before .before .before .before .one in
-    let start = c .before .after in
-    upto-more (a .retired .now) (a .marked .now) (a .sizes .now) (a .first .0) f (entry .pre .marked-long)
-    (now .j) (now .retired) (now .marked) (now .newly) (now .alarms) (now .sum) (now .inv) inside
-    (named .result) (start .result .0) (c .bytes .result) (out .result) (named .ensures) (out .ensures) (start .ensures) (c .bytes .ensures)
+    let done = c .before .before .before .before .before in
+    let l = done .before .before .before .before .before in
+    let a = l .before .before .before .before .before .args in (
+      omega (arith, done .before .before .before .before .loop-test .taken),
+      subst (Retires (a .retired .now) (a .marked .now) (a .sizes .now) (a .first .0) (below (a .upto) (l .loop .j + 1))
+          (done .in-word .last .0) (done .in-word .last .1 .0)) (sym (c .plus .ensures)) (more done),
+    )
+
+by-block-requires : tie.Need-by-block-requires Inv-loop μ-loop
+by-block-requires c κs = alike (c .before .before .before)
+
+plus-requires-2 : tie.Need-plus-requires-2 Inv-loop μ-loop
+plus-requires-2 c κs =
+    let done = c .before .before .before .before in
+    let known = done .before .before .before .before .before .before in
+    retires-fits _ _ _ _ _ _ _ _ (known .before .before .before .pre .0 .retired-long) (small known) (all done)
 
 same-length : tie.Need-same-length Inv-loop μ-loop
 same-length c = search needs
@@ -145,13 +131,11 @@ same-length-2 c = search needs
 
 returns : tie.Need-returns Inv-loop μ-loop
 returns c =
-    let l = c .before in
-    let entry = l .before .before .before .before in
-    let a = entry .args in
-    let f = names (a .first .0) (a .upto) (a .block) in
-    let now = l .loop in
-    all-retired (a .retired .now) (a .marked .now) (a .sizes .now) (a .first .0) f (entry .pre .marked-long)
-    (now .j) (now .retired) (now .marked) (now .newly) (now .alarms) (now .sum) (now .inv) (c .loop-test .left)
+    let done = c .before .before .before .before .before in
+    let l = done .before .before .before .before in
+    let a = l .before .before .before .before .before .args in
+    subst (Retires (a .retired .now) (a .marked .now) (a .sizes .now) (a .first .0) (names (a .first .0) (a .upto) (a .block))
+    (done .by-block .last .0) (done .by-block .last .1 .0)) (sym (c .plus2 .ensures)) (all done)
 
 pub retire-spec : {M : Type 1} → statement M
 retire-spec =
@@ -159,27 +143,18 @@ retire-spec =
     (tie.spec
     Inv-loop
     μ-loop
+    none-requires
     loop-holds
-    cast-at
-    mul-one
-    slice-read-one
-    mul-one-2
-    slice-read-one-2
-    named-requires
-    one-requires
-    mul-retired
-    slice-write-retired
-    mul-marked
-    slice-write-marked
-    add-newly
-    add-alarms
-    mul-after
-    after-requires
-    bytes-requires
-    add-sum
+    mul-loop
+    cast-in-word
+    range-requires
+    in-word-requires
+    plus-requires
     add-j
     loop-less
     loop-again
+    by-block-requires
+    plus-requires-2
     same-length
     same-length-2
     returns)
