@@ -1,11 +1,12 @@
-//! Nanoseconds an event, of the library's functions and of plain Rust, side by side in one run. All answers of the two are compared first.
+//! Nanoseconds an event, of the library's functions over lent rows and by value and of plain Rust, side by side in one run. All answers of the three
+//! are compared first.
 //!
 //! usage: bench         the table
-//!        bench gate    the comparison, and whether each arrival's rate is at least FLOOR
+//!        bench gate    the comparison, and whether each event's rate over lent rows is at least FLOOR
 mod library;
 mod plain;
 
-use library::Library;
+use library::{Lent, Value};
 use plain::{Plain, ECN, LARGEST_ROOM, RTX, TURN};
 use std::hint::black_box;
 use std::process::exit;
@@ -15,8 +16,9 @@ use std::time::Instant;
 const RUNS: usize = 50;
 const RECORDS: usize = 64;
 
-/// The least part of plain Rust's rate that an arrival may have in the gate, in the best of so many tries. A walk of E by bits comes to half of it or
-/// less; what is asked of the library is twice as much, which leaves room for a machine that is busy.
+/// The least part of plain Rust's rate that an event over lent rows may have in the gate, in the best of so many tries. A walk of E by bits, a copy of
+/// the rows or a SACK that goes over all words comes to half of it or less; what is asked of the library is twice as much, which leaves room for a
+/// machine that is busy.
 const FLOOR: f64 = 0.3;
 const TRIES: usize = 5;
 
@@ -24,7 +26,7 @@ const TRIES: usize = 5;
 const ARRIVALS: u32 = 2 * LARGEST_ROOM as u32;
 const BATCH: usize = 256;
 
-/// One of the two. A batch writes four words an answer.
+/// One of the three. A batch writes four words an answer.
 pub trait Card: Clone {
     type Receiver: Clone;
     type Sender: Clone;
@@ -34,6 +36,7 @@ pub trait Card: Clone {
     fn sends(sender: &mut Self::Sender, size: &[u16], out: &mut [u64]);
     fn sacks(sender: &mut Self::Sender, events: &Sacks, out: &mut [u64]);
     fn nacks(sender: &mut Self::Sender, events: &Nacks, out: &mut [u64]);
+    fn timers(sender: &mut Self::Sender, psn: &[u32], out: &mut [u64]);
     fn resends(sender: &mut Self::Sender, many: usize, out: &mut [u64]);
 }
 
@@ -43,6 +46,14 @@ pub struct Arrivals<'a> {
     pub size: &'a [u16],
     pub flags: &'a [u8],
     pub entropy: &'a [u32],
+}
+
+impl Arrivals<'_> {
+    /// One of each for every event, and room for every answer.
+    pub fn check(&self, out: &[u64]) {
+        let many = self.psn.len();
+        assert!(self.size.len() == many && self.flags.len() == many && self.entropy.len() == many && out.len() >= 4 * many);
+    }
 }
 
 #[derive(Default)]
@@ -75,6 +86,11 @@ pub struct Sacks {
 }
 
 impl Sacks {
+    pub fn check(&self, out: &[u64]) {
+        let many = self.cack.len();
+        assert!(self.base.len() == many && self.bitmap.len() == many && out.len() >= 4 * many);
+    }
+
     fn last(mut self) -> Sacks {
         let before = self.cack.len() - 1;
         self.cack.drain(..before);
@@ -90,12 +106,19 @@ pub struct Nacks {
     pub reason: Vec<u8>,
 }
 
+impl Nacks {
+    pub fn check(&self, out: &[u64]) {
+        assert!(self.reason.len() == self.psn.len() && out.len() >= 4 * self.psn.len());
+    }
+}
+
 /// What befalls a record: events that are not measured, and then those that are.
 enum Work {
     Receives { before: Packets, then: Packets },
     Sends { then: Vec<u16> },
     Sacks { sent: Vec<u16>, marked: Nacks, before: Sacks, then: Sacks },
     Nacks { sent: Vec<u16>, then: Nacks },
+    Timers { sent: Vec<u16>, then: Vec<u32> },
     Resends { sent: Vec<u16>, before: Nacks },
 }
 
@@ -179,7 +202,7 @@ impl Start {
 }
 
 /// The lines of the table.
-const EVENTS: [(&str, fn(&mut Start) -> Work); 13] = [
+const EVENTS: [(&str, fn(&mut Start) -> Work); 14] = [
     ("arrival in order", |s| s.receives(vec![], s.psn(0..ARRIVALS))),
     ("arrival, shuffled within the room", |s| {
         let then = s.shuffled(s.psn(0..ARRIVALS));
@@ -220,6 +243,7 @@ const EVENTS: [(&str, fn(&mut Start) -> Work); 13] = [
         s.sacks(then)
     }),
     ("NACK", |s| Work::Nacks { sent: s.sent(), then: s.nacks() }),
+    ("timer", |s| Work::Timers { sent: s.sent(), then: s.nacks().psn }),
     ("resend", |s| Work::Resends { sent: s.sent(), before: s.nacks() }),
 ];
 
@@ -254,6 +278,7 @@ impl Lane {
             Work::Sends { then } => then.len(),
             Work::Sacks { then, .. } => then.cack.len(),
             Work::Nacks { then, .. } => then.psn.len(),
+            Work::Timers { then, .. } => then.len(),
             Work::Resends { before, .. } => before.psn.len(),
         }
     }
@@ -279,7 +304,7 @@ impl Lane {
                 C::sacks(&mut sender, before, out);
                 Record::Sender(sender)
             }
-            Work::Nacks { sent, .. } => Record::Sender(sender(sent, out)),
+            Work::Nacks { sent, .. } | Work::Timers { sent, .. } => Record::Sender(sender(sent, out)),
             Work::Resends { sent, before } => {
                 let mut sender = sender(sent, out);
                 C::nacks(&mut sender, before, out);
@@ -302,6 +327,7 @@ impl Lane {
             (Work::Sends { then }, Record::Sender(sender)) => C::sends(sender, then, out),
             (Work::Sacks { then, .. }, Record::Sender(sender)) => C::sacks(sender, then, out),
             (Work::Nacks { then, .. }, Record::Sender(sender)) => C::nacks(sender, then, out),
+            (Work::Timers { then, .. }, Record::Sender(sender)) => C::timers(sender, then, out),
             (Work::Resends { before, .. }, Record::Sender(sender)) => C::resends(sender, before.psn.len(), out),
             _ => unreachable!(),
         }
@@ -332,15 +358,17 @@ fn time<C: Card>(lanes: &[Lane], ready: &[Record<C>], out: &mut [u64]) -> f64 {
     took
 }
 
-/// Nanoseconds an event of the library and of plain Rust, each the best of its runs, without what the clock takes.
-fn measure(work: fn(&mut Start) -> Work, room: u16, clock: f64, out: &mut [u64]) -> [f64; 2] {
+/// Nanoseconds an event over lent rows, by value and of plain Rust, each the best of its runs, without what the clock takes.
+fn measure(work: fn(&mut Start) -> Work, room: u16, clock: f64, out: &mut [u64]) -> [f64; 3] {
     let lanes = Lane::all(work, room);
-    let library: Vec<Record<Library>> = lanes.iter().map(|lane| lane.ready(out)).collect();
+    let lent: Vec<Record<Lent>> = lanes.iter().map(|lane| lane.ready(out)).collect();
+    let value: Vec<Record<Value>> = lanes.iter().map(|lane| lane.ready(out)).collect();
     let rust: Vec<Record<Plain>> = lanes.iter().map(|lane| lane.ready(out)).collect();
-    let mut best = [f64::MAX; 2];
+    let mut best = [f64::MAX; 3];
     for _ in 0..RUNS {
-        best[0] = best[0].min(time(&lanes, &library, out));
-        best[1] = best[1].min(time(&lanes, &rust, out));
+        best[0] = best[0].min(time(&lanes, &lent, out));
+        best[1] = best[1].min(time(&lanes, &value, out));
+        best[2] = best[2].min(time(&lanes, &rust, out));
     }
     let many: usize = lanes.iter().map(Lane::events).sum();
     best.map(|took| (took - clock) / many as f64)
@@ -353,37 +381,40 @@ fn main() {
     for (name, work) in EVENTS {
         for room in rooms {
             for lane in Lane::all(work, room) {
-                if lane.answers::<Library>(&mut out) != lane.answers::<Plain>(&mut out) {
-                    println!("{name}, room {room}, first {}: the library and plain Rust answer differently", lane.start.first);
-                    exit(1);
+                let rust = lane.answers::<Plain>(&mut out);
+                for (way, library) in [("over lent rows", lane.answers::<Lent>(&mut out)), ("by value", lane.answers::<Value>(&mut out))] {
+                    if library != rust {
+                        println!("{name}, room {room}, first {}: the library {way} and plain Rust answer differently", lane.start.first);
+                        exit(1);
+                    }
                 }
                 same += lane.events();
             }
         }
     }
-    println!("{same} answers of the library and of plain Rust are the same");
+    println!("{same} answers of the library, over lent rows and by value, and of plain Rust are the same");
     let clock = (0..1000).map(|_| Instant::now().elapsed().as_nanos()).min().unwrap() as f64;
     if std::env::args().nth(1).is_some() {
-        for (name, work) in EVENTS.iter().filter(|(name, _)| name.starts_with("arrival")) {
+        for (name, work) in EVENTS {
             for room in rooms {
-                let ratio = |[library, rust]: [f64; 2]| rust / library;
-                if !(0..TRIES).any(|_| ratio(measure(*work, room, clock, &mut out)) >= FLOOR) {
-                    println!("{name}, room {room}: the library is below {FLOOR} of the rate of plain Rust");
+                let ratio = |[lent, _, rust]: [f64; 3]| rust / lent;
+                if !(0..TRIES).any(|_| ratio(measure(work, room, clock, &mut out)) >= FLOOR) {
+                    println!("{name}, room {room}: over lent rows the library is below {FLOOR} of the rate of plain Rust");
                     exit(1);
                 }
             }
         }
-        println!("each arrival's rate is at least {FLOOR} of that of plain Rust");
+        println!("each event's rate over lent rows is at least {FLOOR} of that of plain Rust");
         return;
     }
-    println!("Nanoseconds an event, best of {RUNS} runs; the ratio is the library's rate to that of plain Rust\n");
-    println!("{:36}{:>25}{:>28}", "", format!("room {}", rooms[0]), format!("room {}", rooms[1]));
-    println!("{:36}{}", "", "   library    Rust   ratio  ".repeat(2).trim_end());
+    println!("Nanoseconds an event, best of {RUNS} runs; the ratio is the library's rate over lent rows to that of plain Rust\n");
+    println!("{:36}{:>32}{:>36}", "", format!("room {}", rooms[0]), format!("room {}", rooms[1]));
+    println!("{:36}{}", "", "    lent   value    Rust   ratio    ".repeat(2).trim_end());
     for (name, work) in EVENTS {
         let mut line = format!("{name:36}");
         for room in rooms {
-            let [library, rust] = measure(work, room, clock, &mut out);
-            line += &format!("{library:>10.1}{rust:>8.1}{:>8.2}  ", rust / library);
+            let [lent, value, rust] = measure(work, room, clock, &mut out);
+            line += &format!("{lent:>8.1}{value:>8.1}{rust:>8.1}{:>8.2}    ", rust / lent);
         }
         println!("{}", line.trim_end());
     }

@@ -67,6 +67,7 @@ enum Answer {
     Nacked(Verdict, Nack),
     Retired { newly: u32, place: u32, held: u32, alarms: u32 },
     Marked(u8),
+    Expired(u8),
     Resent(u32),
 }
 
@@ -87,6 +88,7 @@ fn packed(answer: Answer) -> [u64; 4] {
         }
         Answer::Retired { newly, place, held, alarms } => [6, pair(newly, place), held as u64, alarms as u64],
         Answer::Marked(many) => [7 | (many as u64) << 8, 0, 0, 0],
+        Answer::Expired(many) => [8 | (many as u64) << 8, 0, 0, 0],
         Answer::Resent(psn) => [9, psn as u64, 0, 0],
     }
 }
@@ -279,21 +281,25 @@ impl Sender {
         if cack >= TURN || base >= TURN {
             return Answer::Refused(5);
         }
-        // a set bit that is not 2 or more ahead of cack, and less than half
-        let past = base.wrapping_sub(cack) % TURN;
-        let ahead = if past < HALF { low(HALF - past) & !low(2u32.saturating_sub(past)) } else { !low(TURN - past + 2) };
-        if bitmap & !ahead != 0 {
-            return Answer::Refused(17);
-        }
         let n = self.outstanding;
         let upto = cack.wrapping_sub(self.place) % TURN;
-        if n < upto && upto < HALF {
-            return Answer::Refused(8);
+        let mut named = 0;
+        if bitmap != 0 {
+            // a set bit that is not 2 or more ahead of cack, and less than half
+            let past = base.wrapping_sub(cack) % TURN;
+            let ahead = if past < HALF { low(HALF - past) & !low(2u32.saturating_sub(past)) } else { !low(TURN - past + 2) };
+            if bitmap & !ahead != 0 {
+                return Answer::Refused(17);
+            }
+            // the block's bits from `from` up to `to` are outstanding, those from there up to `far` unsent
+            let o = self.after_place(base);
+            let (from, to, far) = if o < HALF { (0, n.saturating_sub(o), HALF - o) } else { (TURN - o, TURN - o + n, 64) };
+            if bitmap & low(far) & !low(to) != 0 {
+                return Answer::Refused(8);
+            }
+            named = bitmap & low(to) & !low(from);
         }
-        // the block's bits from `from` up to `to` are outstanding, those from there up to `far` unsent
-        let o = self.after_place(base);
-        let (from, to, far) = if o < HALF { (0, n.saturating_sub(o), HALF - o) } else { (TURN - o, TURN - o + n, 64) };
-        if bitmap & low(far) & !low(to) != 0 {
+        if n < upto && upto < HALF {
             return Answer::Refused(8);
         }
         let (mut newly, mut alarms) = (0, 0);
@@ -311,7 +317,6 @@ impl Sender {
                 left -= many;
             }
         }
-        let named = bitmap & low(to) & !low(from);
         if named != 0 {
             let (j, b) = spot(base);
             count(self.retire(j, named << b));
@@ -339,16 +344,33 @@ impl Sender {
         if !(1..=6).contains(&reason) {
             return Answer::Refused(15);
         }
+        self.mark(psn, reason <= 4, Answer::Marked)
+    }
+
+    #[inline(always)]
+    fn timer(&mut self, psn: u32) -> Answer {
+        if self.room == 0 {
+            return Answer::Refused(2);
+        }
+        if psn >= TURN {
+            return Answer::Refused(5);
+        }
+        self.mark(psn, true, Answer::Expired)
+    }
+
+    /// An outstanding packet number is marked, where it may be; an unsent one is refused.
+    #[inline(always)]
+    fn mark(&mut self, psn: u32, may: bool, told: fn(u8) -> Answer) -> Answer {
         let i = self.after_place(psn);
         if i >= self.outstanding {
-            return if i < HALF { Answer::Refused(8) } else { Answer::Marked(0) };
+            return if i < HALF { Answer::Refused(8) } else { told(0) };
         }
         let (j, b) = spot(psn);
-        if reason > 4 || (self.retired[j] | self.marked[j]) >> b & 1 == 1 {
-            return Answer::Marked(0);
+        if !may || (self.retired[j] | self.marked[j]) >> b & 1 == 1 {
+            return told(0);
         }
         self.marked[j] |= 1 << b;
-        Answer::Marked(1)
+        told(1)
     }
 
     #[inline(always)]
@@ -419,6 +441,13 @@ impl Card for Plain {
     fn nacks(sender: &mut Sender, e: &Nacks, out: &mut [u64]) {
         for ((out, psn), reason) in out.chunks_exact_mut(4).zip(&e.psn).zip(&e.reason) {
             out.copy_from_slice(&packed(sender.nack(*psn, *reason)));
+        }
+    }
+
+    #[inline(never)]
+    fn timers(sender: &mut Sender, psn: &[u32], out: &mut [u64]) {
+        for (out, psn) in out.chunks_exact_mut(4).zip(psn) {
+            out.copy_from_slice(&packed(sender.timer(*psn)));
         }
     }
 
