@@ -122,6 +122,7 @@ pub struct Sum {
     pub bytes: u32,
 }
 
+// Nothing is counted.
 fn none() -> Sum
     ensures { λ r. ⌜ r ≡ nothing ⌝ }
 {
@@ -132,6 +133,7 @@ fn none() -> Sum
     }
 }
 
+// Two counts together.
 fn plus(a: Sum, b: Sum) -> Sum
     requires { ⌜ Fits (added a b) ⌝ }
     ensures { λ r. ⌜ r ≡ added a b ⌝ }

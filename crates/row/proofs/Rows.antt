@@ -1,6 +1,6 @@
 -- The bits of a row, word by word: position p is bit p % 64 of word p / 64. Assumes nothing.
 use mathlib.Core.Path.{_≡_, sym, ap, ap₂, _∙_}
-use mathlib.Core.Bool.{Bool, true, false, not, cond, false≢true}
+use mathlib.Core.Bool.{Bool, true, false, not, false≢true}
 use mathlib.Core.List.{List}
 use Prim.Native.Nat.{ℕ, _+_, _-_, _*_, _/_, _%_, _^_, _≤_, _<_}
 use native.Mathlib.Omega.{arith}
@@ -9,9 +9,8 @@ use lib.Dec.{eqb}
 use lib.ListN.{length, getD, set, replicate, length-replicate, getD-replicate, List·getD-eq-default}
 use lib.Seq.{getD-set-same, getD-set-other}
 use borrow.Author.Tests.{eq-eqb, ne-eqb, lt-ltb, le-ltb, not-true}
-use Rattle.lists.specs.Index.{First, weigh}
+use Rattle.lists.specs.Index.{First}
 use Rattle.word.specs.Word.{bit-at, Bits, bit-of-two}
-use Rattle.lists.proofs.Index.{total-add, total-same}
 use Rattle.word.proofs.Bits.{bit-none, bit-not}
 use Rattle.row.specs.Row.{at, bits, Row, is-clear}
 
@@ -113,12 +112,3 @@ none-stride f g p t same before first i l = elim (decLt i p) [
   | yes h ↦ before i h
   | no h ↦ ap f (omega arith) ∙ same (i - p) (omega (arith, first .within)) ∙ first .none (i - p) (omega arith)
 ]
-
--- ---- counts
--- what passes below the end of word j, with its weight
-pub weigh-word : (f g : ℕ → Bool) (w u : ℕ → ℕ) (j : ℕ) → ((b : ℕ) → b < 64 → f (64 * j + b) ≡ g b) → ((b : ℕ) → b < 64 → w (64 * j + b) ≡ u b)
-    → weigh (64 * (j + 1)) f w ≡ weigh (64 * j) f w + weigh 64 g u
-weigh-word f g w u j e d =
-    let k : 64 * (j + 1) ≡ 64 * j + 64 = omega arith in
-    ap (λ (n : ℕ). weigh n f w) k ∙ total-add (64 * j) 64 _
-    ∙ ap (λ (x : ℕ). weigh (64 * j) f w + x) (total-same 64 _ _ (λ b l. ap₂ (λ (t : Bool) (x : ℕ). cond t x 0) (e b l) (d b l)))

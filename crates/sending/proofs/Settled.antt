@@ -105,7 +105,10 @@ step-settled x e r s ss rs ms ss′ rs′ ms′ small small′ few few′ p q =
     let retires′ : Becomes (x .retired) rs′ f = record { long = q .retired-long; bits-are = retired-are z (q .meets .sound) } in
     let marks : Becomes (x .marked) ms g =
     record { long = p .marked-long; bits-are = subst (λ (m : rule.Sender). Row ms (marked-of m)) (same .1) (marked-are y (p .meets .sound)) } in
-    let marks′ : Becomes (x .marked) ms′ g = record { long = q .marked-long; bits-are = marked-are z (q .meets .sound) } in
-    (same .0, head-is y (p .meets .sound) ∙ ap head-of (same .1) ∙ sym (head-is z (q .meets .sound)),
-    p .sizes-are ∙ ap (sizes-after (x .sizes) e) (same .0) ∙ sym (q .sizes-are),
-    becomes-settled (x .retired) rs rs′ f small small′ retires retires′, becomes-settled (x .marked) ms ms′ g few few′ marks marks′)
+    let marks′ : Becomes (x .marked) ms′ g = record { long = q .marked-long; bits-are = marked-are z (q .meets .sound) } in (
+      same .0,
+      head-is y (p .meets .sound) ∙ ap head-of (same .1) ∙ sym (head-is z (q .meets .sound)),
+      p .sizes-are ∙ ap (sizes-after (x .sizes) e) (same .0) ∙ sym (q .sizes-are),
+      becomes-settled (x .retired) rs rs′ f small small′ retires retires′,
+      becomes-settled (x .marked) ms ms′ g few few′ marks marks′,
+    )

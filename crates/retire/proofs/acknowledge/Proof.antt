@@ -2,12 +2,11 @@
 -- the block, run and shed. Assumes nothing.
 use mathlib.Core.Path.{_≡_, refl, sym, ap, subst, _∙_}
 use mathlib.Core.Logic.{⊎-elim}
-use Prim.Native.Nat.{ℕ, _≤_}
+use Prim.Native.Nat.{ℕ}
 use native.Mathlib.Omega.{arith}
 use Rattle.psn.specs.Psn.{after, distance}
-use Rattle.psn.proofs.Circle.{distance-lt}
 use Rattle.retire.specs.Rows.{names, Retires}
-use Rattle.retire.specs.Front.{offset, reach, row-first, named-by}
+use Rattle.retire.specs.Front.{offset, row-first, named-by}
 use Rattle.retire.proofs.Front.{reaches, reaches-none, at-front, before-place, then-before, past-place, moves, nothing-moves}
 use borrow.Author.Needs.{needs}
 use Rattle.retire.proofs.acknowledge.Statement.{statement}

@@ -135,9 +135,10 @@ returns-5 c =
 acknowledge-requires : tie.Need-acknowledge-requires
 acknowledge-requires c κs =
     let last = c .before .before in
-    let e = from-unsent last in
-    (in-use (lent-at e) (e .pre) (last .before .before .before .before .before .before .before .before .if1 .left),
-    sym (unsent-is (last .before)) ∙ last .if5 .left)
+    let e = from-unsent last in (
+      in-use (lent-at e) (e .pre) (last .before .before .before .before .before .before .before .before .if1 .left),
+      sym (unsent-is (last .before)) ∙ last .if5 .left,
+    )
 
 same-length : tie.Need-same-length
 same-length c = search needs
