@@ -179,10 +179,12 @@ impl Head {
         if !allowed::psn_ok(block.base) {
             return self.refused(5);
         }
-        if retire::contradicts(cack, block) {
+        let contradicts = retire::contradicts(cack, block);
+        let unsent = retire::names_unsent(self.place, self.outstanding, cack, block);
+        if contradicts {
             return self.refused(17);
         }
-        if retire::names_unsent(self.place, self.outstanding, cack, block) {
+        if unsent {
             return self.refused(8);
         }
         self.acknowledge(sizes, retired, marked, cack, block)

@@ -36,13 +36,13 @@ abbrev from-base : tie.Else3 → tie.Start
 from-base c = from-cack (c .before .before)
 
 abbrev from-contradicts : tie.Else4 → tie.Start
-from-contradicts c = from-base (c .before .before)
+from-contradicts c = from-base (c .before .before .before)
 
 abbrev asked : tie.After-names-unsent → tie.Start
-asked c = from-contradicts (c .before)
+asked c = from-base (c .before .before)
 
 abbrev from-unsent : tie.Else5 → tie.Start
-from-unsent c = from-contradicts (c .before .before)
+from-unsent c = from-contradicts (c .before)
 
 -- the tests that were passed
 past-unused : (c : tie.Else1) → Past (tests (from-unused c)) 1
@@ -59,7 +59,7 @@ past-base c = past (tests (from-base c)) 2 (past-cack (c .before .before)) (sym 
 
 past-contradicts : (c : tie.Else4) → Past (tests (from-contradicts c)) 4
 unfolding sack-refusals test
-past-contradicts c = past (tests (from-contradicts c)) 3 (past-base (c .before .before)) (sym (c .before .contradicts .ensures) ∙ c .if4 .left)
+past-contradicts c = past (tests (from-contradicts c)) 3 (past-base (c .before .before .before)) (sym (c .before .before .contradicts .ensures) ∙ c .if4 .left)
 
 unsent-is : (c : tie.After-names-unsent) → c .names-unsent .result
     ≡ names-unsent (meaning (lent-at (asked c))) (asked c .args .cack .0) (asked c .args .block)
@@ -67,7 +67,7 @@ unsent-is c = c .names-unsent .ensures (meaning (lent-at (asked c))) (stands (le
 
 past-unsent : (c : tie.Else5) → Past (tests (from-unsent c)) 5
 unfolding sack-refusals test
-past-unsent c = past (tests (from-unsent c)) 4 (past-contradicts (c .before .before)) (sym (unsent-is (c .before)) ∙ c .if5 .left)
+past-unsent c = past (tests (from-unsent c)) 4 (past-contradicts (c .before)) (sym (unsent-is (c .before .before)) ∙ c .if5 .left)
 
 refused-requires : tie.Need-refused-requires
 refused-requires c κs = search needs
@@ -108,18 +108,19 @@ returns-3 c =
 contradicts-requires : tie.Need-contradicts-requires
 contradicts-requires c κs = search needs
 
+names-unsent-requires : tie.Need-names-unsent-requires
+names-unsent-requires c κs = search needs
+
 refused-requires-4 : tie.Need-refused-requires-4
 refused-requires-4 c κs = search needs
 
 returns-4 : tie.Need-returns-4
 unfolding step sack sack-refusals test number
 returns-4 c =
-    let e = c .before .before .before .before .before .before .before .before .before .before .before .before in
-    let odd = sym (c .before .before .contradicts .ensures) ∙ c .before .if4 .taken in
-    refused-by (lent-at e) (e .pre) (event e) (tests e) _ refl 3 (past-base (c .before .before .before)) odd (c .refused4 .result) (c .refused4 .ensures)
-
-names-unsent-requires : tie.Need-names-unsent-requires
-names-unsent-requires c κs = search needs
+    let base = c .before .before .before .before in
+    let e = from-base base in
+    let odd = sym (c .before .before .before .contradicts .ensures) ∙ c .before .if4 .taken in
+    refused-by (lent-at e) (e .pre) (event e) (tests e) _ refl 3 (past-base base) odd (c .refused4 .result) (c .refused4 .ensures)
 
 refused-requires-5 : tie.Need-refused-requires-5
 refused-requires-5 c κs = search needs
@@ -127,17 +128,17 @@ refused-requires-5 c κs = search needs
 returns-5 : tie.Need-returns-5
 unfolding step sack sack-refusals test number
 returns-5 c =
-    let e = c .before .before .before .before .before .before .before .before .before .before .before .before .before .before in
-    let earlier = past-contradicts (c .before .before .before) in
-    let ahead = sym (unsent-is (c .before .before)) ∙ c .before .if5 .taken in
-    refused-by (lent-at e) (e .pre) (event e) (tests e) _ refl 4 earlier ahead (c .refused5 .result) (c .refused5 .ensures)
+    let earlier = c .before .before in
+    let e = from-contradicts earlier in
+    let ahead = sym (unsent-is (earlier .before)) ∙ c .before .if5 .taken in
+    refused-by (lent-at e) (e .pre) (event e) (tests e) _ refl 4 (past-contradicts earlier) ahead (c .refused5 .result) (c .refused5 .ensures)
 
 acknowledge-requires : tie.Need-acknowledge-requires
 acknowledge-requires c κs =
     let last = c .before .before in
     let e = from-unsent last in (
       in-use (lent-at e) (e .pre) (last .before .before .before .before .before .before .before .before .if1 .left),
-      sym (unsent-is (last .before)) ∙ last .if5 .left,
+      sym (unsent-is (last .before .before)) ∙ last .if5 .left,
     )
 
 same-length : tie.Need-same-length
@@ -171,9 +172,9 @@ sack-spec =
     refused-requires-3
     returns-3
     contradicts-requires
+    names-unsent-requires
     refused-requires-4
     returns-4
-    names-unsent-requires
     refused-requires-5
     returns-5
     acknowledge-requires
