@@ -15,12 +15,13 @@
 use crate::alarms;
 use crate::generate::{edge, Chance};
 use crate::log::{self, Record, Slot, KINDS, LONGEST, PSN_WIDTH, SLOTS};
-use crate::side::{contradiction, distance, on, set_bits, Outcome, Receiver, CONTRADICTIONS, HALF, TURN, WORDS};
+use crate::side::{contradiction, distance, on, set_bits, Outcome, Receiver, CONTRADICTIONS, HALF, LARGEST_ROOM, TURN};
 use std::collections::BTreeMap;
 
 const TABLE: usize = 20;
 const BYTES: usize = 33_000;
 const SHOWN: usize = 40;
+const LARGEST: u64 = LARGEST_ROOM as u64;
 
 /// The names of the ops, and of each op's numbers before the fields. Of those that take an event, its kind and fields come after.
 const OPS: [(&str, &[&str]); 9] = [
@@ -227,18 +228,17 @@ impl Library {
     }
 }
 
-/// A slot's record in numbers: all zero if it is not in use.
+/// A slot's record in numbers: all zero if it is not in use, with no word of its three rows.
 fn record(slot: &Slot, seen: &mut Seen) -> Vec<u64> {
     match slot {
         None => {
             saw(seen, "record of no connection".into());
-            vec![0; 4 + 3 + 3 * WORDS as usize]
+            vec![0; 4 + 2 + 3 + 1]
         }
         Some((sender, receiver)) => {
             let (send, receive) = (sender.record(), receiver.record());
-            let words = WORDS as usize;
             saw(seen, "record of a connection".into());
-            if send[4 + words..].iter().any(|&w| w != 0) {
+            if sender.has_marks() {
                 saw(seen, "record with marks".into());
             }
             if sender.sizes().len() > 64 {
@@ -512,9 +512,9 @@ fn some_fields(chance: &mut Chance, kind: u64, slot: &Slot, first: u32) -> Vec<u
     match kind {
         1 => {
             let some_room = |chance: &mut Chance| match chance.below(12) {
-                0 => chance.pick(&[0, 63, 65, 100, 513, 576, 65_535, 65_536]),
-                1 => 512,
-                _ => 64 * (1 + chance.below(8)),
+                0 => chance.pick(&[0, 63, 65, 100, LARGEST + 1, LARGEST + 64, 65_535, 65_536]),
+                1 => LARGEST,
+                _ => 64 * (1 + chance.below(LARGEST / 64)),
             };
             let (send, receive) = (some_room(chance), some_room(chance));
             let psns = if chance.one_in(8) { [near(chance, first, 64), near(chance, first, 64)] } else { [first.into(), first.into()] };

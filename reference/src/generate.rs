@@ -2,7 +2,9 @@
 //! refused, damaged, cut and random bytes, and the lengths at the edges.
 
 use crate::log::{Card, Record, LONGEST};
-use crate::side::{on, HALF, TURN};
+use crate::side::{on, HALF, LARGEST_ROOM, TURN};
+
+const LARGEST: u64 = LARGEST_ROOM as u64;
 
 /// A small generator of numbers (splitmix64).
 pub struct Chance(u64);
@@ -97,7 +99,8 @@ pub fn traffic(chance: &mut Chance, room: u64, first: u32, events: usize) -> Vec
     let weather = weather(chance);
     let mut script = Script::new(LONGEST);
     let (near, far) = (chance.below(16) as u8, chance.below(16) as u8);
-    let receive_room = if chance.one_in(4) { 64 * (1 + chance.below(8)) } else { room.max(64 * (1 + chance.below(8))) };
+    let other_room = some_room(chance);
+    let receive_room = if chance.one_in(4) { other_room } else { room.max(other_room) };
     script.event(1, near, &[room, first.into(), receive_room, first.into()]);
     if far != near {
         script.event(1, far, &[room, chance.below(TURN.into()), receive_room, first.into()]);
@@ -182,11 +185,12 @@ pub fn edges(chance: &mut Chance, events: usize) -> Vec<u8> {
             break;
         }
         let slot = chance.pick(&[0, 0, 0, 1, 2, 15, 16, 255]);
-        let near = on(first, chance.pick(&[0, 1, 2, 3, 62, 63, 64, 65, 511, 512, 513, TURN - 1, TURN - 2, HALF - 1, HALF, HALF + 1]));
+        let largest = u32::from(LARGEST_ROOM);
+        let near = on(first, chance.pick(&[0, 1, 2, 3, 62, 63, 64, 65, largest - 1, largest, largest + 1, TURN - 1, TURN - 2, HALF - 1, HALF, HALF + 1]));
         let also = on(first, chance.pick(&[0, 1, 4, 63, 64, TURN - 1, TURN - 64, HALF, HALF - 65]));
         let size = chance.pick(&[0, 47, 48, 100, 100, 100, 9216, 9217, 65535]);
-        let room = chance.pick(&[0, 63, 64, 64, 64, 65, 128, 512, 512, 513, 576, 2048, 65535]);
-        let other = chance.pick(&[64, 64, 128, 512, 100]);
+        let room = chance.pick(&[0, 63, 64, 64, 64, 65, 128, LARGEST, LARGEST, LARGEST + 1, LARGEST + 64, 4 * LARGEST, 65535]);
+        let other = chance.pick(&[64, 64, 128, LARGEST, 100]);
         match chance.pick(&[1, 2, 3, 3, 3, 3, 4, 4, 4, 5, 5, 6, 6, 7, 8]) {
             1 => script.event(1, slot, &[room, first.into(), other, first.into()]),
             2 if chance.one_in(3) => script.event(2, slot, &[]),
@@ -275,7 +279,7 @@ fn random(chance: &mut Chance, length: usize) -> Vec<u8> {
 }
 
 fn some_room(chance: &mut Chance) -> u64 {
-    64 * (1 + chance.below(8))
+    64 * (1 + chance.below(LARGEST / 64))
 }
 
 fn some_first(chance: &mut Chance) -> u32 {
@@ -323,7 +327,7 @@ pub fn log(seed: u64, i: usize) -> Vec<u8> {
             }
             3 | 4 => edges(&mut chance, 500),
             5 => {
-                let (room, first) = (64 * (1 + (n as u64 / 8) % 8), some_first(&mut chance));
+                let (room, first) = (64 * (1 + (n as u64 / 8) % (LARGEST / 64)), some_first(&mut chance));
                 traffic(&mut chance, room, first, 1500)
             }
             _ => {

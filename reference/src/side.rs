@@ -39,8 +39,11 @@ pub fn contradiction(place: u32, outstanding: u32, cack: u32, base: u32) -> Vec<
     (0..ways.len()).filter(|&i| ways[i]).collect()
 }
 
+/// The largest room.
+pub const LARGEST_ROOM: u16 = 512;
+
 pub fn room_allowed(room: u16) -> bool {
-    (64..=512).contains(&room) && room % 64 == 0
+    (64..=LARGEST_ROOM).contains(&room) && room % 64 == 0
 }
 
 pub fn size_allowed(size: u16) -> bool {
@@ -62,13 +65,14 @@ pub fn done(values: Vec<u64>) -> Outcome {
     Ok(Done { values, unprinted: vec![] })
 }
 
-/// The words in which a record keeps packet numbers: bit b of word j is number 64 j + b from the block of 64 on in which `from` lies.
-pub const WORDS: u32 = 9;
-
-fn words(from: u32, has: impl Fn(u32, bool) -> bool) -> Vec<u64> {
+/// The words in which a record keeps packet numbers: how many there are up to the last that has a bit, and those. Bit b of word j is number 64 j + b
+/// from the block of 64 on in which `from` lies.
+fn row(from: u32, has: impl Fn(u32, bool) -> bool) -> Vec<u64> {
     let first = from - from % 64;
     let bit = |i: u32| u64::from(has(on(first, i), i < from % 64)) << (i % 64);
-    (0..WORDS).map(|j| (64 * j..64 * j + 64).map(bit).sum()).collect()
+    let words: Vec<u64> = (0..=u32::from(LARGEST_ROOM) / 64).map(|j| (64 * j..64 * j + 64).map(bit).sum()).collect();
+    let used = words.iter().rposition(|&word| word != 0).map_or(0, |last| last + 1);
+    [&[used as u64], &words[..used]].concat()
 }
 
 /// The reasons of a NACK, and the MPR of a SACK.
@@ -93,7 +97,7 @@ impl Receiver {
 
     /// The record in numbers: its room, the expected packet number, the count, and the words of those accepted, all before E with them.
     pub fn record(&self) -> Vec<u64> {
-        let accepted = words(self.expected, |psn, before| before || self.ahead.contains(&psn));
+        let accepted = row(self.expected, |psn, before| before || self.ahead.contains(&psn));
         [vec![self.room.into(), self.expected.into(), self.bytes.into()], accepted].concat()
     }
 
@@ -186,9 +190,13 @@ impl Sender {
     pub fn record(&self) -> Vec<u64> {
         let first = on(self.place, 1);
         let sent = |psn: u32| self.packets.get(&(self.retired_to + 1 + u64::from(distance(first, psn))));
-        let retired = words(first, |psn, before| before || sent(psn).is_some_and(|p| p.retired));
-        let marked = words(first, |psn, _| sent(psn).is_some_and(|p| p.marked));
+        let retired = row(first, |psn, before| before || sent(psn).is_some_and(|p| p.retired));
+        let marked = row(first, |psn, _| sent(psn).is_some_and(|p| p.marked));
         [vec![self.room.into(), self.place.into(), self.outstanding().into(), self.held()], retired, marked].concat()
+    }
+
+    pub fn has_marks(&self) -> bool {
+        self.packets.values().any(|p| p.marked)
     }
 
     /// The sizes of the packets outstanding.

@@ -40,8 +40,8 @@ const BYTES: usize = 33_000;
 
 const SHOWN: usize = 40;
 
-// Room for the longest line.
-const LINE: usize = 4096;
+// Room for the longest line: of a record, whose numbers have at most 20 digits, its sizes 5, with the space or the end of the line behind each.
+const LINE: usize = 21 * (8 + 3 * (1 + WORDS)) + 6 * SIZES;
 
 // The largest numbers of 8, 16, 32 and 64 bits.
 const MOST_8: u64 = 0xFF;
@@ -340,9 +340,23 @@ fn push_sizes(out: &mut [u8], at: usize, sizes: [u16; SIZES], first: u32, n: u32
     p
 }
 
-// Puts the words of a row.
+// How many words there are up to the last that has a bit.
+fn used(words: &[u64]) -> usize {
+    let mut n = words.len();
+    while 0 < n {
+        if words[n - 1] != 0 {
+            return n;
+        }
+        n -= 1;
+    }
+    0
+}
+
+// Puts the words of a row up to the last that has a bit, after their number.
 fn push_words(out: &mut [u8], at: usize, words: [u64; WORDS]) -> usize {
-    push_all(out, at, &words, WORDS)
+    let n = used(&words);
+    let p = lines::push_next(out, at, n as u64);
+    push_all(out, p, &words, n)
 }
 
 // Puts a receiver: its room, the expected packet number, its count and its words.
