@@ -21,7 +21,7 @@ use Rattle.table.specs.Slots.{On, meaning}
 use Rattle.table.proofs.Slots.{reached-sound, empties}
 use Rattle.event_log.specs.Parts.{Writes}
 use Rattle.event_log.proofs.RoundTrip.{written-read, read-written}
-use Rattle.text.proofs.Writing.{writes-replay}
+use Rattle.player.proofs.Writing.{writes-replay}
 use Rattle.delivery.proofs.Theorem.{delivers}
 use Rattle.delivery.proofs.Never.{never-contradicts}
 use Rattle.delivery.proofs.DoesEnd.{does-end, settles}

@@ -26,9 +26,9 @@ use Rattle.connection.specs.declared.Connection.{Connection}
 use Rattle.connection.specs.Record.{empty}
 use Rattle.table.specs.Slots.{AllSound, Reached, On, meaning}
 use Rattle.event_log.specs.Parts.{Reads, Writes}
-use Rattle.player.specs.Play.{begin}
 use Rattle.text.specs.Text.{head-text, text-of}
-use Rattle.text.specs.Piece as piece
+use Rattle.player.specs.Play.{begin}
+use Rattle.player.specs.Piece as piece
 use Rattle.delivery.specs.Promise.{Delivers}
 use Rattle.delivery.specs.Sense.{NeverContradicts}
 use Rattle.delivery.specs.Progress.{DoesEnd, Settles, GoesOn}

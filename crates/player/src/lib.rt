@@ -1,24 +1,26 @@
-// The replay of a log but for its text: one record after the other, from an empty table on.
+// The replay of a log, piece by piece: one record after the other, from empty slots on, and their lines in a buffer that the caller lends. The slots
+// stand in the one function that loops; a record copies the slot that it names, and no other.
 ghost use mathlib.Core.Path.{_≡_};
-ghost use Rattle.player.specs.Play.{begin as begin-of, Sound, Turned};
+ghost use Rattle.player.specs.Play.{begin as begin-of, Sound};
+ghost use Rattle.player.specs.Piece.{in-buffer as in-buffer-of, Pieces};
+use connection::Connection;
 use rules::Answer;
 use rules::Read;
-use table::Table;
+use rules::SLOTS;
+use text::LINE;
 
-// Where a replay stands: the table, the place in the log, the records read.
+// Where a replay stands: the slots, the place in the log, the records read.
 pub struct State {
-    pub table: Table,
+    pub slots: [Connection; SLOTS],
     pub place: usize,
     pub count: usize,
 }
 
-// One turn: a record's kind and answer, or, where there is none, the number that ends the log.
-pub struct Turn {
-    pub more: bool,
-    pub kind: u8,
-    pub answer: Answer,
-    pub stop: u8,
+// A piece of the text: how many bytes of the buffer it takes, where the replay stands after it, and whether more follows.
+pub struct Piece {
+    pub length: usize,
     pub state: State,
+    pub more: bool,
 }
 
 impl State {
@@ -26,20 +28,35 @@ impl State {
     pub fn begin() -> State
         ensures { λ r. ⌜ r ≡ begin-of ⌝ }
     {
+        let c = Connection::empty();
         State {
-            table: Table::empty(),
+            slots: [c; SLOTS],
             place: 0,
             count: 0,
         }
     }
+}
 
-    // The record at the place is answered.
-    pub fn turn(self, log: &[u8]) -> Turn
-        requires { ⌜ Sound self ⌝ }
-        ensures { λ r. ⌜ Turned (now (log .entry)) self r ⌝ }
-    {
-        let place = self.place;
-        let count = self.count;
+// An index of n bytes: past their end, the end.
+fn in_buffer(from: usize, n: usize) -> usize
+    ensures { λ r. ⌜ r ≡ in-buffer-of from n ⌝ }
+{
+    if n < from {
+        return n;
+    }
+    from
+}
+
+// Fills the buffer from an index on: whole lines, record after record, for as long as another surely fits.
+pub fn fill(state: State, log: &[u8], out: &mut [u8], from: usize) -> Piece
+    requires { ⌜ Sound state ⌝ }
+    ensures { λ r. ⌜ Pieces (now (log .entry)) state from (now (out .entry)) r (now (out .exit)) ⌝ }
+{
+    let mut slots = state.slots;
+    let mut place = state.place;
+    let mut count = state.count;
+    let mut at = in_buffer(from, out.len());
+    while LINE <= out.len() - at {
         match event_log::read(log, place) {
             Read::Record {
                 slot,
@@ -47,29 +64,40 @@ impl State {
                 kind,
                 next,
             } => {
-                let table = self.table;
-                let out = table.on(slot as usize, event);
-                let answer = out.answer;
-                let after = out.record;
-                Turn {
-                    more: true,
-                    kind,
-                    answer,
-                    stop: 0,
-                    state: State {
-                        table: after,
-                        place: next,
-                        count: count + 1,
-                    },
+                let i = slot as usize;
+                if SLOTS <= i {
+                    at = text::push_line(out, at, kind, Answer::Refused(1));
+                } else {
+                    let s = table::in_slot(slots[i], event);
+                    let answer = s.answer;
+                    let after = s.record;
+                    slots[i] = after;
+                    at = text::push_line(out, at, kind, answer);
                 }
+                place = next;
+                count += 1;
             }
-            Read::Nothing(stop) => Turn {
-                more: false,
-                kind: 0,
-                answer: Answer::Refused(stop),
-                stop,
-                state: self,
-            },
+            Read::Nothing(stop) => {
+                let end = text::push_last(out, at, stop, place, count);
+                return Piece {
+                    length: end,
+                    state: State {
+                        slots,
+                        place,
+                        count,
+                    },
+                    more: false,
+                };
+            }
         }
+    }
+    Piece {
+        length: at,
+        state: State {
+            slots,
+            place,
+            count,
+        },
+        more: true,
     }
 }

@@ -7,15 +7,15 @@ use native.Mathlib.Omega.{arith}
 use lib.ListN.{length, take, length-append}
 use lib.Seq.{length-take-le}
 use Rattle.rules.specs.Replay.{replay}
-use Rattle.player.specs.declared.State.{State}
-use Rattle.player.specs.Play.{begin, Sound}
-use Rattle.player.proofs.Turning.{begin-sound}
 use Rattle.lines.specs.Text.{Puts}
 use Rattle.lines.proofs.Room.{puts-whole}
-use Rattle.text.specs.declared.Piece.{Piece}
-use Rattle.text.specs.Text.{head-text, text-of}
-use Rattle.text.specs.Piece.{line-room, Pieces, Writes, ends, goes-on}
-use Rattle.text.proofs.Writing.{writes-replay}
+use Rattle.text.specs.Text.{head-text, text-of, line-room}
+use Rattle.player.specs.declared.State.{State}
+use Rattle.player.specs.declared.Piece.{Piece}
+use Rattle.player.specs.Play.{begin, Sound}
+use Rattle.player.specs.Piece.{Pieces, Writes, ends, goes-on}
+use Rattle.player.proofs.Turning.{begin-sound}
+use Rattle.player.proofs.Writing.{writes-replay}
 
 -- the room for the text between two writes
 abbrev pub buffer : ℕ

@@ -32,7 +32,7 @@ fn write(log: &[u8]) -> usize
     let mut state = State::begin();
     let mut total: usize = 0;
     loop {
-        let p = text::fill(state, log, &mut out, at);
+        let p = player::fill(state, log, &mut out, at);
         let length = p.length;
         let next = p.state;
         total += print(&out[..length]);

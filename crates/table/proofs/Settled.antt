@@ -5,14 +5,14 @@ use mathlib.Core.List.{List}
 use mathlib.Core.Logic.{_≢_}
 use Prim.Native.Nat.{ℕ}
 use lib.ListN.{length, getD, replicate}
-use Rattle.rules.specs.Numbers.{slots}
+use Rattle.rules.specs.Table.{in-slot}
 use Rattle.rules.specs.declared.Answer.{Answer}
 use Rattle.rules.specs.declared.Event.{Event}
 use Rattle.rules.proofs.Settled.{settled}
 use Rattle.connection.specs.declared.Connection.{Connection}
-use Rattle.connection.specs.Record.{empty}
-use Rattle.table.specs.declared.Stepped.{Stepped}
-use Rattle.table.specs.declared.Table.{Table}
+use Rattle.connection.specs.declared.Stepped.{Stepped}
+use Rattle.connection.specs.Record.{empty, Steps}
+use Rattle.connection.specs.Record as connection
 use Rattle.table.specs.Slots.{On, meaning}
 
 -- what any two of them share: the answer, what the table means, and every slot but the one that is named
@@ -27,14 +27,11 @@ event-settled t slot e a b u v p q =
     let both = settled a b u v (p .meets) (q .meets) in
     record { answer-same = both .0; means-same = both .1; elsewhere-same = λ i n. p .elsewhere i n ∙ sym (q .elsewhere i n) }
 
-pub on-settled : (t : Table) (slot : ℕ) (e : Event) (r s : Stepped) → On (t .slots) slot e (r .answer) (r .«record» .slots)
-    → On (t .slots) slot e (s .answer) (s .«record» .slots)
-    → Same slot (r .answer) (s .answer) (r .«record» .slots) (s .«record» .slots)
-on-settled t slot e r s = event-settled (t .slots) slot e (r .answer) (s .answer) (r .«record» .slots) (s .«record» .slots)
+-- by value, the slot's record by what it means
+pub in-slot-settled : (c : Connection) (e : Event) (r s : Stepped) → Steps c (in-slot (connection.meaning c) e) r → Steps c (in-slot (connection.meaning c) e) s
+    → (r .answer ≡ s .answer) × (connection.meaning (r .«record») ≡ connection.meaning (s .«record»))
+in-slot-settled c e r s = settled (r .answer) (s .answer) (r .«record») (s .«record»)
 
--- a table emptied, lent or by value, is settled to the last word
+-- a table emptied is settled to the last word
 pub empty-all-settled : (t u v : List Connection) → u ≡ replicate (length t) empty → v ≡ replicate (length t) empty → u ≡ v
 empty-all-settled t u v p q = p ∙ sym q
-
-pub empty-settled : (t u : Table) → t .slots ≡ replicate slots empty → u .slots ≡ replicate slots empty → t ≡ u
-empty-settled t u p q i = record { slots = (p ∙ sym q) i }

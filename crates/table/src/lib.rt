@@ -1,17 +1,16 @@
-// The table of connections, lent or by value. An event copies one slot, has it answered by value and stores it back.
+// The lent table of connections. An event copies one slot, has it answered by value and stores it back.
 ghost use mathlib.Core.Path.{_≡_};
 ghost use lib.ListN.{length, replicate};
-ghost use Rattle.rules.specs.Numbers.{slots};
-ghost use Rattle.rules.specs.Table.{in-slot as in-slot-of, on as on-of};
+ghost use Rattle.rules.specs.Table.{in-slot as in-slot-of};
 ghost use Rattle.connection.specs.Record.{empty as empty-of, meaning as meaning-of, Sound, Steps};
-ghost use Rattle.table.specs.Slots.{AllSound, meaning, On};
+ghost use Rattle.table.specs.Slots.{AllSound, On};
 use connection::Connection;
 use rules::Answer;
 use rules::Event;
 use rules::SLOTS;
 
-// An event on the record of a slot: a start only where it is not in use.
-fn in_slot(c: Connection, event: Event) -> connection::Stepped
+// An event on the record of a slot, by value: a start only where it is not in use.
+pub fn in_slot(c: Connection, event: Event) -> connection::Stepped
     requires { ⌜ Sound c ⌝ }
     ensures { λ r. ⌜ Steps c (in-slot-of (meaning-of c) event) r ⌝ }
 {
@@ -56,49 +55,5 @@ pub fn empty_all(table: &mut [Connection])
     while i < table.len() {
         table[i] = c;
         i += 1;
-    }
-}
-
-// A table by value, for callers that lend none.
-pub struct Table {
-    pub slots: [Connection; SLOTS],
-}
-
-// The answer to an event, and the table after it.
-pub struct Stepped {
-    pub answer: Answer,
-    pub record: Table,
-}
-
-impl Table {
-    // Every slot is empty.
-    pub fn empty() -> Table
-        ensures { λ r. ⌜ r .slots ≡ replicate slots empty-of ⌝ }
-    {
-        let c = Connection::empty();
-        Table { slots: [c; SLOTS] }
-    }
-
-    // An event on a slot.
-    pub fn on(self, slot: usize, event: Event) -> Stepped
-        requires { ⌜ AllSound (self .slots) ⌝ }
-        ensures { λ r. ⌜ On (self .slots) slot event (r .answer) (r .record .slots) ⌝ }
-    {
-        if SLOTS <= slot {
-            return Stepped {
-                answer: Answer::Refused(1),
-                record: self,
-            };
-        }
-        let mut slots = self.slots;
-        let c = slots[slot];
-        let s = in_slot(c, event);
-        let answer = s.answer;
-        let next = s.record;
-        slots[slot] = next;
-        Stepped {
-            answer,
-            record: Table { slots },
-        }
     }
 }

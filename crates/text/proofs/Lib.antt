@@ -1,5 +1,2 @@
--- Laws of the text, and what the program's pieces amount to. Assumes nothing.
+-- Laws of the text. Assumes nothing.
 pub mod Telling
-pub mod Turning
-pub mod Filling
-pub mod Writing

@@ -13,8 +13,7 @@ use Rattle.rules.specs.declared.Answer.the-variants as answer
 use Rattle.paper.specs.Shown.{most}
 use Rattle.lines.specs.Text.{decimal}
 use Rattle.lines.proofs.Room.{decimal-short}
-use Rattle.text.specs.Text.{spaced, line-text, last-text, offset-of}
-use Rattle.text.specs.Piece.{line-room}
+use Rattle.text.specs.Text.{spaced, line-text, lines-text, last-text, offset-of, line-room}
 
 -- one number more
 pub spaced-more : (l m : List ℕ) → spaced (l ++ m) ≡ spaced l ++ spaced m
@@ -28,6 +27,16 @@ spaced-one n = append-nil (32 ∷ decimal n)
 
 pub spaced-next : (l : List ℕ) (i : ℕ) → i < length l → spaced (take (i + 1) l) ≡ spaced (take i l) ++ (32 ∷ decimal (getD l i 0))
 spaced-next l i h = rw (add-one i, take-suc l i 0 h, spaced-more, spaced-one)
+
+-- lines behind lines
+pub lines-more : (l m : List Replied) → lines-text (l ++ m) ≡ lines-text l ++ lines-text m
+unfolding lines-text
+lines-more [] m = refl
+lines-more (r ∷ l) m = rw (lines-more l m, append-assoc)
+
+pub lines-one : (l : Replied) → lines-text (l ∷ []) ≡ line-text (line l)
+unfolding lines-text
+lines-one l = append-nil (line-text (line l))
 
 -- the texts of the calls, one behind the other
 pub line-is : (kind number : ℕ) (l : List ℕ)

@@ -1,3 +1,2 @@
--- The text of a replay, and what the program's functions promise of it.
+-- The text of a replay.
 pub mod Text
-pub mod Piece

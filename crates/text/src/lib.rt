@@ -1,27 +1,17 @@
-// The text of a replay, piece by piece: whole lines, one behind the other, in a buffer that the caller lends.
+// The text of a replay, line by line, in a buffer that the caller lends.
 ghost use mathlib.Core.Path.{_≡_};
 ghost use lib.ListN.{length, take};
 ghost use Rattle.lines.specs.Text.{Puts};
 ghost use Rattle.paper.specs.Shown.{most};
-ghost use Rattle.player.specs.Play.{Sound};
 ghost use Rattle.rules.specs.Replay.{line, stop as stop-of};
 ghost use Rattle.text.specs.Text.{spaced, line-text, last-text, offset-of, head-text};
-ghost use Rattle.text.specs.Piece.{in-buffer as in-buffer-of, Pieces};
 use paper::Shown;
 use paper::VALUES;
-use player::State;
 use rules::Answer;
 use rules::LONGEST_LOG;
 
 // The most bytes of a line: its numbers have at most 20 digits, with the space or the end of the line behind each.
-const LINE: usize = 21 * (VALUES + 2);
-
-// A piece of the text: how many bytes of the buffer it takes, where the replay stands after it, and whether more follows.
-pub struct Piece {
-    pub length: usize,
-    pub state: State,
-    pub more: bool,
-}
+pub const LINE: usize = 21 * (VALUES + 2);
 
 // The values of a line, each behind a space.
 fn push_values(out: &mut [u8], at: usize, s: Shown) -> usize
@@ -43,7 +33,7 @@ fn push_values(out: &mut [u8], at: usize, s: Shown) -> usize
 }
 
 // A record's line: its kind, the answer's number and, if that is 0, its values.
-fn push_line(out: &mut [u8], at: usize, kind: u8, answer: Answer) -> usize
+pub fn push_line(out: &mut [u8], at: usize, kind: u8, answer: Answer) -> usize
     ensures { λ r. ⌜ Puts (now (out .entry)) at (line-text (line (record { kind = kind; answer = answer }))) (now (out .exit)) r ⌝ }
 {
     let s = paper::line_of(answer);
@@ -54,7 +44,7 @@ fn push_line(out: &mut [u8], at: usize, kind: u8, answer: Answer) -> usize
 }
 
 // What ends the log: `end N`, or `log R at O`.
-fn push_last(out: &mut [u8], at: usize, stop: u8, place: usize, count: usize) -> usize
+pub fn push_last(out: &mut [u8], at: usize, stop: u8, place: usize, count: usize) -> usize
     ensures { λ r. ⌜ Puts (now (out .entry)) at (last-text (stop-of stop place count)) (now (out .exit)) r ⌝ }
 {
     if stop == 0 {
@@ -88,43 +78,4 @@ pub fn head(out: &mut [u8]) -> usize
 {
     let text = *b"mrc log 1\n";
     lines::push_bytes(out, 0, &text)
-}
-
-// An index of n bytes: past their end, the end.
-fn in_buffer(from: usize, n: usize) -> usize
-    ensures { λ r. ⌜ r ≡ in-buffer-of from n ⌝ }
-{
-    if n < from {
-        return n;
-    }
-    from
-}
-
-// Fills the buffer from an index on: whole lines, turn after turn, for as long as another surely fits.
-pub fn fill(state: State, log: &[u8], out: &mut [u8], from: usize) -> Piece
-    requires { ⌜ Sound state ⌝ }
-    ensures { λ r. ⌜ Pieces (now (log .entry)) state from (now (out .entry)) r (now (out .exit)) ⌝ }
-{
-    let mut here = state;
-    let mut at = in_buffer(from, out.len());
-    while LINE <= out.len() - at {
-        let t = here.turn(log);
-        let next = t.state;
-        let answer = t.answer;
-        if !t.more {
-            let end = push_last(out, at, t.stop, here.place, here.count);
-            return Piece {
-                length: end,
-                state: next,
-                more: false,
-            };
-        }
-        at = push_line(out, at, t.kind, answer);
-        here = next;
-    }
-    Piece {
-        length: at,
-        state: here,
-        more: true,
-    }
 }

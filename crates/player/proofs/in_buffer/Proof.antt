@@ -1,7 +1,7 @@
 -- `in_buffer` meets its contract: the test is the definition's own. Assumes nothing.
 use borrow.Author.Tests.{lt-ltb, le-ltb}
-use Rattle.text.proofs.in_buffer.Statement.{statement}
-use Rattle.text.proofs.in_buffer.Tie as tie
+use Rattle.player.proofs.in_buffer.Statement.{statement}
+use Rattle.player.proofs.in_buffer.Tie as tie
 
 returns : tie.Need-returns
 returns c = rw (lt-ltb _ _ (c .if1 .taken))

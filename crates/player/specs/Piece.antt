@@ -6,15 +6,10 @@ use Prim.Native.Nat.{ℕ, _+_, _-_, _≤_, _<_}
 use lib.Dec.{ltb}
 use lib.ListN.{length, take, drop}
 use Rattle.rules.specs.Replay.{Replied, Last}
+use Rattle.text.specs.Text.{lines-text, last-text, line-room}
 use Rattle.player.specs.declared.State.{State}
-use Rattle.player.specs.declared.Turn.{Turn}
+use Rattle.player.specs.declared.Piece.{Piece}
 use Rattle.player.specs.Play.{Sound, Turned, Plays}
-use Rattle.text.specs.declared.Piece.{Piece}
-use Rattle.text.specs.Text.{lines-text, last-text}
-
--- the most bytes of a line: 10 numbers of at most 20 digits, with the space or the end of the line behind each
-abbrev pub line-room : ℕ
-line-room = 210
 
 -- an index of n bytes: past their end, the end
 abbrev pub in-buffer : ℕ → ℕ → ℕ
@@ -23,8 +18,7 @@ in-buffer from n = cond (ltb n from) n from
 -- turns that answer these lines lead from one state to the other
 pub data Turns (log : List ℕ) : State → List Replied → State → Type 0 where
   none : {x : State} → Turns log x [] x
-  one-more : {x y : State} (r : Turn) {l : List Replied} → Turned log x r → r .more ≡ true → Turns log (r .state) l y
-      → Turns log x (record { kind = r .kind; answer = r .answer } ∷ l) y
+  one-more : {x y z : State} {l : Replied} {rest : List Replied} → Turned log x l y → Turns log y rest z → Turns log x (l ∷ rest) z
 
 -- where more follows, these are the lines of some turns from x on; where not, of all that are left, and the last line
 pub record Tells (log : List ℕ) (x : State) (front : List ℕ) (r : Piece) (text : List ℕ) : Type 0 where

@@ -8,16 +8,17 @@ use lib.Dec.{ltb}
 use lib.ListN.{length, take, drop}
 use lib.Seq.{length-take-le, take-all, drop-drop}
 use borrow.Author.Tests.{ltb-true, ltb-false}
+use Rattle.rules.specs.Log.{read}
 use Rattle.rules.specs.Replay.{Replied, line, stop}
-use Rattle.player.specs.declared.State.{State}
-use Rattle.player.specs.declared.Turn.{Turn}
-use Rattle.player.specs.Play.{Sound, Turned, stops}
+use Rattle.rules.specs.declared.Read.the-variants.{Nothing}
 use Rattle.lines.specs.Text.{Puts}
 use Rattle.lines.proofs.Room.{puts-whole}
-use Rattle.text.specs.Text.{line-text, lines-text, last-text}
-use Rattle.text.specs.Piece.{line-room, in-buffer, Turns, none, Pieces}
-use Rattle.text.proofs.Telling.{line-short, last-short}
-use Rattle.text.proofs.Turning.{told, lines-more, turns-further, turns-more, turns-plays}
+use Rattle.text.specs.Text.{line-text, lines-text, last-text, line-room}
+use Rattle.text.proofs.Telling.{line-short, last-short, lines-more, lines-one}
+use Rattle.player.specs.declared.State.{State}
+use Rattle.player.specs.Play.{Sound, Turned, stops}
+use Rattle.player.specs.Piece.{in-buffer, Turns, none, Pieces}
+use Rattle.player.proofs.Turning.{turns-further, turns-more, turns-plays}
 
 -- the text of some turns stands behind the first bytes
 pub record Filled (log : List ℕ) (x : State) (from : ℕ) (before out : List ℕ) (y : State) (at : ℕ) : Type 0 where
@@ -61,10 +62,6 @@ filled-none log x from before at s e = go (ltb (length before) from) refl
         }
 
 module _ {log : List ℕ} {x : State} {from : ℕ} {before out : List ℕ} {y : State} {at : ℕ} (f : Filled log x from before out y at) where
-  lines-one : (r : Turn) → lines-text (told r ∷ []) ≡ line-text (line (told r))
-  unfolding lines-text
-  lines-one r = append-nil (line-text (line (told r)))
-
   -- what is put from there on leaves the bytes behind it as they were
   still-later : (after : List ℕ) (p : ℕ) → at ≤ p → drop p after ≡ drop p out → drop p after ≡ drop p before
   still-later after p h e =
@@ -75,18 +72,18 @@ module _ {log : List ℕ} {x : State} {from : ℕ} {before out : List ℕ} {y : 
       e ∙ behind
 
   -- one line more
-  pub filled-more : {r : Turn} {after : List ℕ} {p : ℕ} → Turned log y r → r .more ≡ true → line-room ≤ length out - at
-      → Puts out at (line-text (line (told r))) after p → Filled log x from before after (r .state) p
-  filled-more {r} {after} {p} t m h q =
-      let short = line-short (told r) in
+  pub filled-more : {z : State} {r : Replied} {after : List ℕ} {p : ℕ} → Turned log y r z → line-room ≤ length out - at
+      → Puts out at (line-text (line r)) after p → Filled log x from before after z p
+  filled-more {z} {r} {after} {p} t h q =
+      let short = line-short r in
       let w = puts-whole q (omega (arith, f .within)) in
-      let text = lines-more (f .lines) (told r ∷ []) ∙ ap (λ (u : List ℕ). lines-text (f .lines) ++ u) (lines-one r) in
+      let text = lines-more (f .lines) (r ∷ []) ∙ ap (λ (u : List ℕ). lines-text (f .lines) ++ u) (lines-one r) in
       record {
         long = w .long ∙ f .long;
         within = omega (arith, w .long, w .index, f .within);
         sound = t .sound;
-        lines = f .lines ++ (told r ∷ []);
-        turns = turns-more (f .turns) t m;
+        lines = f .lines ++ (r ∷ []);
+        turns = turns-more (f .turns) t;
         text = w .bytes ∙ rw (f .text, text, append-assoc);
         later = still-later after p (omega (arith, w .index)) (w .later);
       }
@@ -114,14 +111,14 @@ module _ {log : List ℕ} {x : State} {from : ℕ} {before out : List ℕ} {y : 
   }
 
   -- the last line
-  pub filled-ends : {r : Turn} {after : List ℕ} {p : ℕ} → Turned log y r → r .more ≡ false → line-room ≤ length out - at
-      → Puts out at (last-text (stop (r .stop) (y .place) (y .count))) after p
-      → Pieces log x from before (record { length = p; state = r .state; more = false }) after
-  filled-ends {r} {after} {p} t m h q =
-      let last = stop (r .stop) (y .place) (y .count) in
+  pub filled-ends : {n : ℕ} {after : List ℕ} {p : ℕ} → read log (y .place) ≡ Nothing n → line-room ≤ length out - at
+      → Puts out at (last-text (stop n (y .place) (y .count))) after p
+      → Pieces log x from before (record { length = p; state = y; more = false }) after
+  filled-ends {n} {after} {p} e h q =
+      let last = stop n (y .place) (y .count) in
       let short = last-short last in
       let w = puts-whole q (omega (arith, f .within)) in
-      let plays = turns-plays (f .turns) (stops r t m) in
+      let plays = turns-plays (f .turns) (stops n e) in
       record {
         long = w .long ∙ f .long;
         fits = omega (arith, w .long, w .index, f .within);
@@ -131,6 +128,6 @@ module _ {log : List ℕ} {x : State} {from : ℕ} {before out : List ℕ} {y : 
         };
         later = still-later after p (omega (arith, w .index)) (w .later);
         full = λ e. absurd (false≢true e);
-        sound = t .sound;
+        sound = f .sound;
         further = λ e. absurd (false≢true e);
       }

@@ -3,12 +3,13 @@ use mathlib.Core.Path.{_≡_, ap, _∙_}
 use mathlib.Core.List.{List, _++_, append-assoc}
 use Prim.Native.Nat.{ℕ}
 use Rattle.rules.specs.Replay.{Replied, Last, replay}
+use Rattle.text.specs.Text.{lines-text, last-text, head-text, text-of}
+use Rattle.text.proofs.Telling.{lines-more}
 use Rattle.player.specs.declared.State.{State}
 use Rattle.player.specs.Play.{begin, Plays}
+use Rattle.player.specs.Piece.{Writes, ends, goes-on}
+use Rattle.player.proofs.Turning.{turns-plays}
 use Rattle.player.proofs.Playing.{plays-replay}
-use Rattle.text.specs.Text.{lines-text, last-text, head-text, text-of}
-use Rattle.text.specs.Piece.{Writes, ends, goes-on}
-use Rattle.text.proofs.Turning.{lines-more, turns-plays}
 
 -- a text behind a text
 behind : (front x y z : List ℕ) {a b xy : List ℕ} → a ≡ front ++ x → b ≡ y ++ z → xy ≡ x ++ y → a ++ b ≡ front ++ (xy ++ z)
