@@ -40,6 +40,15 @@ extern "C" {
     fn mrc_nacks_by_value(record: *mut u64, psn: &Scalars, reason: &Bytes, out: &Words);
     fn mrc_timers_by_value(record: *mut u64, psn: &Scalars, out: &Words);
     fn mrc_resends_by_value(record: *mut u64, many: usize, out: &Words);
+
+    fn mrc_replays(log: &Bytes, out: &Bytes, told: &Words);
+}
+
+/// How many bytes of text the replay of a log has behind its head.
+pub fn replays(log: &[u8], out: &mut [u8]) -> u64 {
+    let mut told = [0];
+    unsafe { mrc_replays(&lent(log), &lent_mut(out), &lent_mut(&mut told)) };
+    told[0]
 }
 
 /// The words of a row for the largest room.

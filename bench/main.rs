@@ -22,10 +22,19 @@ const RECORDS: usize = 64;
 /// or less. The library is at 0.5 or more and at 0.7 or more, which leaves room for a machine that is busy.
 const FLOOR: f64 = 0.3;
 const NAMED_FLOOR: f64 = 0.5;
-/// How many times what it takes at the smallest room such an event may take at the largest. A SACK that goes over all words of a row takes 1.8 times
-/// as long or more.
-const GROWTH: f64 = 1.4;
+/// How many times what it takes at the smallest room such an event may take at the largest, where the records no longer fit the nearest cache. A SACK
+/// that goes over all words of a row takes five times as long or more.
+const GROWTH: f64 = 2.0;
 const TRIES: usize = 5;
+/// How many times what a resend by value takes at the largest room a record of the replay may take: it copies one slot, writes a line, and is at 5 to 7.
+/// With five copies of the whole table it is at 70.
+const RECORD: f64 = 25.0;
+
+/// The longest log, the program's buffer for its text, and two records.
+const LONGEST_LOG: usize = 32_768;
+const TEXT: usize = 65_536;
+const START: [u8; 14] = [0x4D, 0x52, 1, 0, 0, 64, 0, 0, 10, 0, 64, 0, 0, 10];
+const RESEND: [u8; 4] = [0x4D, 0x52, 8, 0];
 
 /// Arrivals at each record, and how many go in a batch.
 const ARRIVALS: u32 = 2 * LARGEST_ROOM as u32;
@@ -379,6 +388,21 @@ fn measure(work: fn(&mut Start) -> Work, room: u16, clock: f64, out: &mut [u64])
     best.map(|took| (took - clock) / many as f64)
 }
 
+/// Nanoseconds a record of the replay, the best of its runs. The log is a start and resends, which are all refused: "8 9".
+fn replay(clock: f64) -> f64 {
+    let records = 1 + (LONGEST_LOG - START.len()) / RESEND.len();
+    let log: Vec<u8> = START.into_iter().chain(RESEND.into_iter().cycle().take((records - 1) * RESEND.len())).collect();
+    let mut out = vec![0; TEXT];
+    let took = (0..RUNS).map(|_| {
+        let began = Instant::now();
+        let text = library::replays(black_box(&log), &mut out);
+        let took = began.elapsed().as_nanos() as f64;
+        assert_eq!(text as usize, "8 9\n".len() * records + format!("end {records}\n").len(), "the replay's text is as long as it should be");
+        took
+    });
+    (took.fold(f64::MAX, f64::min) - clock) / records as f64
+}
+
 fn main() {
     let rooms = [64, LARGEST_ROOM as u16];
     let mut out = vec![0; 4 * BATCH.max(LARGEST_ROOM)];
@@ -412,6 +436,15 @@ fn main() {
                 exit(1);
             }
         }
+        let (_, _, resend) = EVENTS[EVENTS.len() - 1];
+        let mut last = (0.0, 0.0);
+        if !(0..TRIES).any(|_| {
+            last = (replay(clock), measure(resend, rooms[1], clock, &mut out)[1]);
+            last.0 <= RECORD * last.1
+        }) {
+            println!("a record of the replay takes {:.0} ns, a resend by value {:.0}: slower than allowed", last.0, last.1);
+            exit(1);
+        }
         println!("each event's rate over lent rows is at least {FLOOR} of that of plain Rust; where it touches only what it names, {NAMED_FLOOR}, and alike at every room");
         return;
     }
@@ -426,4 +459,5 @@ fn main() {
         }
         println!("{}", line.trim_end());
     }
+    println!("\na record of the replay, which copies one slot and writes a line: {:.1}", replay(clock));
 }

@@ -244,6 +244,9 @@ fn record(slot: &Slot, seen: &mut Seen) -> Vec<u64> {
             if sender.sizes().len() > 64 {
                 saw(seen, "record with more than 64 outstanding".into());
             }
+            if sender.sizes().len() == LARGEST_ROOM as usize {
+                saw(seen, "record with the largest room outstanding".into());
+            }
             [send, receive, sender.sizes()].concat()
         }
     }
@@ -355,7 +358,10 @@ pub fn reachable() -> Vec<String> {
     for what in ["event past 16 in a longer table", "empty slots in use", "empty with slots in use left", "poke", "fill"] {
         add(what.into());
     }
-    for what in ["record of no connection", "record of a connection", "record with marks", "record with more than 64 outstanding"] {
+    for what in ["record of no connection", "record of a connection", "record with marks"] {
+        add(what.into());
+    }
+    for what in ["record with more than 64 outstanding", "record with the largest room outstanding"] {
         add(what.into());
     }
     // the order of document 01's refusals, kind by kind
@@ -646,7 +652,7 @@ pub fn sequence(seed: u64, i: usize) -> Vec<Call> {
     let mut script = Script { library: Library::new(), calls: Vec::new() };
     // one in eight sends so much that its room is full, and marks much of it
     if chance.one_in(8) {
-        let room = chance.pick(&[64, 128]);
+        let room = if chance.one_in(8) { LARGEST } else { chance.pick(&[64, 128]) };
         script.event(20, 0, 1, &[room, first.into(), room, first.into()]);
         for _ in 0..room + chance.below(2) {
             script.event(20, 0, 3, &[48 + chance.below(9169)]);

@@ -1,7 +1,7 @@
 //! Logs of every family, from a seed: traffic over a network that loses, trims, repeats, delays and swaps, long gaps that close, events that are
 //! refused, damaged, cut and random bytes, and the lengths at the edges.
 
-use crate::log::{Card, Record, LONGEST};
+use crate::log::{Card, Record, LONGEST, PROGRAM_SLOTS, SLOTS};
 use crate::side::{on, HALF, LARGEST_ROOM, TURN};
 
 const LARGEST: u64 = LARGEST_ROOM as u64;
@@ -98,7 +98,7 @@ fn seldom_twisted(chance: &mut Chance, fields: &[u64]) -> Vec<u64> {
 pub fn traffic(chance: &mut Chance, room: u64, first: u32, events: usize) -> Vec<u8> {
     let weather = weather(chance);
     let mut script = Script::new(LONGEST);
-    let (near, far) = (chance.below(16) as u8, chance.below(16) as u8);
+    let (near, far) = (chance.below(PROGRAM_SLOTS as u64) as u8, chance.below(PROGRAM_SLOTS as u64) as u8);
     let other_room = some_room(chance);
     let receive_room = if chance.one_in(4) { other_room } else { room.max(other_room) };
     script.event(1, near, &[room, first.into(), receive_room, first.into()]);
@@ -184,7 +184,7 @@ pub fn edges(chance: &mut Chance, events: usize) -> Vec<u8> {
         if script.full() {
             break;
         }
-        let slot = chance.pick(&[0, 0, 0, 1, 2, 15, 16, 255]);
+        let slot = chance.pick(&[0, 0, 0, 1, 2, PROGRAM_SLOTS as u8 - 1, PROGRAM_SLOTS as u8, SLOTS as u8 - 1, SLOTS as u8, 255]);
         let largest = u32::from(LARGEST_ROOM);
         let near = on(first, chance.pick(&[0, 1, 2, 3, 62, 63, 64, 65, largest - 1, largest, largest + 1, TURN - 1, TURN - 2, HALF - 1, HALF, HALF + 1]));
         let also = on(first, chance.pick(&[0, 1, 4, 63, 64, TURN - 1, TURN - 64, HALF, HALF - 65]));
@@ -232,30 +232,55 @@ pub fn long(chance: &mut Chance) -> Vec<u8> {
     script.bytes
 }
 
-/// Gaps of more than 64 packets that close at once: E's own packet comes behind all others that were sent, and the reply to it names all of them.
-pub fn gaps(chance: &mut Chance, room: u64, first: u32) -> Vec<u8> {
+/// Which sides of the gaps are in the log: a log has no room for both sides of the largest windows.
+#[derive(Clone, Copy, PartialEq)]
+pub enum Sides {
+    Both,
+    Sender,
+    Receiver,
+}
+
+/// Gaps of more than 64 packets that close at once, the first of them a whole room: the first packet comes behind all others, and the reply to it
+/// names all of them. The sender alone hears of the others by blocks of 64, in any order.
+pub fn gaps(chance: &mut Chance, sides: Sides, room: u64, first: u32) -> Vec<u8> {
     let mut script = Script::new(LONGEST);
     script.event(1, 0, &[room, first.into(), room, first.into()]);
     let mut expected = first;
     while !script.full() {
-        let many = if chance.one_in(2) { room } else { room.min(65 + chance.below(room)) };
+        let many = if expected == first || chance.one_in(2) { room } else { room.min(65 + chance.below(room)) };
         let mut packets: Vec<(u32, u64)> = (0..many).map(|i| (on(expected, i as u32), 48 + chance.below(9169))).collect();
-        for (_, size) in &packets {
+        for (_, size) in packets.iter().filter(|_| sides != Sides::Receiver) {
             if !script.full() {
                 script.event(3, 0, &[*size]);
             }
         }
-        packets.sort_by_cached_key(|(psn, _)| (*psn == expected, chance.next()));
-        for (psn, size) in packets {
-            if script.full() {
-                break;
+        let next = on(expected, many as u32);
+        let mut replies = Vec::new();
+        if sides == Sides::Sender {
+            let before = u64::from(on(expected, TURN - 1));
+            for block in 0..many.div_ceil(64) {
+                let left = many - 64 * block;
+                let bits = if left < 64 { (1 << left) - 1 } else { u64::MAX } & if block == 0 { !1 } else { u64::MAX };
+                replies.push(vec![before, on(expected, 64 * block as u32).into(), bits]);
             }
-            let reply = script.event(4, 0, &[psn.into(), size, chance.below(4), chance.below(1 << 32)]).filter(|_| psn == expected && !script.full());
-            if let Some(values) = reply {
-                script.event(5, 0, &values[1..4]);
-                expected = on(values[1] as u32, 1);
+            replies.sort_by_cached_key(|_| chance.next());
+            replies.push(vec![on(next, TURN - 1).into(), next.into(), 0]);
+        } else {
+            packets.sort_by_cached_key(|(psn, _)| (*psn == expected, chance.next()));
+            for (psn, size) in packets {
+                if script.full() {
+                    break;
+                }
+                let reply = script.event(4, 0, &[psn.into(), size, chance.below(4), chance.below(1 << 32)]);
+                replies.extend(reply.filter(|_| psn == expected && sides == Sides::Both).map(|values| values[1..4].to_vec()));
             }
         }
+        for reply in replies {
+            if !script.full() {
+                script.event(5, 0, &reply);
+            }
+        }
+        expected = next;
     }
     script.bytes
 }
@@ -278,8 +303,10 @@ fn random(chance: &mut Chance, length: usize) -> Vec<u8> {
     (0..length).map(|_| chance.next() as u8).collect()
 }
 
+/// Every second one is of the smallest quarter.
 fn some_room(chance: &mut Chance) -> u64 {
-    64 * (1 + chance.below(LARGEST / 64))
+    let largest = chance.pick(&[LARGEST / 4, LARGEST]);
+    64 * (1 + chance.below(largest / 64))
 }
 
 fn some_first(chance: &mut Chance) -> u32 {
@@ -306,8 +333,13 @@ pub fn log(seed: u64, i: usize) -> Vec<u8> {
         6 => random(&mut chance, 2),
         n if n % 64 == 7 => long(&mut chance),
         n if n % 64 == 15 => {
-            let (room, first) = (some_room(&mut chance), some_first(&mut chance));
-            gaps(&mut chance, room, first)
+            // so large that a send of 6 bytes and an arrival of 14 fit for each packet, and some records beside them
+            let (room, first) = (some_room(&mut chance).min(LONGEST as u64 / 20 / 64 * 64 - 64), some_first(&mut chance));
+            gaps(&mut chance, Sides::Both, room, first)
+        }
+        n if n % 64 == 47 => {
+            let first = some_first(&mut chance);
+            gaps(&mut chance, if n / 64 % 2 == 0 { Sides::Sender } else { Sides::Receiver }, LARGEST, first)
         }
         n => match n % 8 {
             0 => {

@@ -5,6 +5,7 @@ use std::fmt::Write;
 
 pub const LONGEST: usize = 32_768;
 pub const SLOTS: usize = 16;
+pub const PROGRAM_SLOTS: usize = 4;
 /// How many bytes a packet number takes. No other field takes as many.
 pub const PSN_WIDTH: usize = 3;
 
@@ -179,7 +180,7 @@ pub fn event(lent: &mut [Slot], slot: usize, kind: usize, f: &[u64]) -> Outcome 
 
 #[derive(Clone, Default)]
 pub struct Card {
-    slots: [Slot; SLOTS],
+    slots: [Slot; PROGRAM_SLOTS],
 }
 
 impl Card {

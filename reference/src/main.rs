@@ -156,6 +156,7 @@ type Seen = BTreeMap<(usize, u64), u64>;
 const BUFFER: usize = 65_536;
 const LONG: (usize, u64) = (usize::MAX, 0);
 const STRIDE: usize = usize::MAX - 1;
+const WINDOW: usize = usize::MAX - 5;
 const COUNTED: (usize, u64) = (usize::MAX - 2, 4);
 const CONTRADICTS: usize = usize::MAX - 3;
 const ALARMS: usize = usize::MAX - 4;
@@ -163,8 +164,8 @@ const ALARMS: usize = usize::MAX - 4;
 /// For so many logs, each of `rare` must be met at least once.
 const ONE_IN: u64 = 200;
 
-/// A text longer than two of the program's buffers, which it writes when they are full; a move over more than a word, of E by an arrival and of
-/// the place by a SACK; a repeat that is seen to be counted; a SACK that contradicts itself in each of the ways of `side::contradiction`; and a
+/// A text longer than two of the program's buffers, which it writes when they are full; a move over more than a word, and over the largest room, of
+/// E by an arrival and of the place by a SACK; a repeat that is seen to be counted; a SACK that contradicts itself in each of the ways of `side::contradiction`; and a
 /// SACK that meets marks in each of those of `alarms`.
 fn rare() -> Vec<((usize, u64), &'static str)> {
     fn ways(class: usize, names: &'static [&'static str]) -> impl Iterator<Item = ((usize, u64), &'static str)> {
@@ -174,6 +175,8 @@ fn rare() -> Vec<((usize, u64), &'static str)> {
         (LONG, "texts of more than two buffers"),
         ((STRIDE, 4), "arrivals that move E by more than 64"),
         ((STRIDE, 5), "SACKs that move the place by more than 64"),
+        ((WINDOW, 4), "arrivals that move E by the largest room"),
+        ((WINDOW, 5), "SACKs that move the place by the largest room"),
         (COUNTED, "known arrivals that raise count / 256"),
     ];
     all.extend(ways(CONTRADICTS, &side::CONTRADICTIONS));
@@ -217,8 +220,9 @@ fn compare_one(i: usize, seed: u64, command: &[String], seen: &mut Seen) {
             (4, Ok(done)) if done.values[0] > 1 => {}
             (kind @ (4 | 5), Ok(done)) => {
                 let end = ends.insert((record.slot, kind), done.values[1]).expect("a slot in use was started");
-                if (done.values[1] + turn - end) % turn > 64 {
-                    *seen.entry((STRIDE, kind as u64)).or_default() += 1;
+                let moved = (done.values[1] + turn - end) % turn;
+                for class in [(moved > 64).then_some(STRIDE), (moved == side::LARGEST_ROOM.into()).then_some(WINDOW)].into_iter().flatten() {
+                    *seen.entry((class, kind as u64)).or_default() += 1;
                 }
                 if kind == 4 && counts.insert(record.slot, done.values[4]) < Some(done.values[4]) && done.values[0] == 1 {
                     *seen.entry(COUNTED).or_default() += 1;

@@ -1,4 +1,4 @@
-//! The two sides of a connection, from document 01 with requests No. 3, 4 and 8 of document 02: packet numbers are kept in ordered maps and sets, one
+//! The two sides of a connection, from document 01 with requests No. 3, 4, 6 and 8 of document 02: packet numbers are kept in ordered maps and sets, one
 //! entry each.
 
 use std::collections::{BTreeMap, BTreeSet};
@@ -40,7 +40,7 @@ pub fn contradiction(place: u32, outstanding: u32, cack: u32, base: u32) -> Vec<
 }
 
 /// The largest room.
-pub const LARGEST_ROOM: u16 = 512;
+pub const LARGEST_ROOM: u16 = 2048;
 
 pub fn room_allowed(room: u16) -> bool {
     (64..=LARGEST_ROOM).contains(&room) && room % 64 == 0

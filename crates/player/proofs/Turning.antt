@@ -4,7 +4,7 @@ use mathlib.Core.List.{List, [], _∷_, _++_}
 use Prim.Native.Nat.{ℕ, _+_, _≤_, _<_}
 use native.Mathlib.Omega.{arith}
 use lib.ListN.{length, length-set, length-replicate, set, getD}
-use Rattle.rules.specs.Numbers.{slots}
+use Rattle.rules.specs.Numbers.{program-slots}
 use Rattle.rules.specs.Table.{in-slot}
 use Rattle.rules.specs.Paper.{read-line}
 use Rattle.rules.specs.Log.{read}
@@ -38,7 +38,7 @@ read-further log place slot e kind next h =
 
 -- an empty table is where a replay begins
 pub begin-sound : Sound begin
-begin-sound = record { many = length-replicate {A = Connection} slots empty; slots-sound = empty-sound slots; count-low = omega arith }
+begin-sound = record { many = length-replicate {A = Connection} program-slots empty; slots-sound = empty-sound program-slots; count-low = omega arith }
 
 -- ---- one turn
 module _ (log : List ℕ) (x : State) (s : Sound x) (slot : ℕ) (e : Event) (kind next : ℕ) (h : read log (x .place) ≡ Record slot e kind next) where
@@ -58,16 +58,16 @@ module _ (log : List ℕ) (x : State) (s : Sound x) (slot : ℕ) (e : Event) (ki
   }
 
   -- a slot past the program's
-  pub turned-past : slots ≤ slot
+  pub turned-past : program-slots ≤ slot
       → Turned log x (record { kind = kind; answer = answer.Refused 1 }) (record { slots = x .slots; place = next; count = x .count + 1 })
   turned-past far = turned (x .slots) (λ i. kind) (λ i. length (x .slots)) (past-end (x .slots) slot e (s .slots-sound) (omega (arith, s .many)))
 
   -- any other: its record is answered by value and stored back
-  pub turned-in : slot < slots → (r : Stepped) → Steps (getD (x .slots) slot empty) (in-slot (connection.meaning (getD (x .slots) slot empty)) e) r
+  pub turned-in : slot < program-slots → (r : Stepped) → Steps (getD (x .slots) slot empty) (in-slot (connection.meaning (getD (x .slots) slot empty)) e) r
       → Turned log x (record { kind = kind; answer = r .answer }) (record { slots = set (x .slots) slot (r .«record»); place = next; count = x .count + 1 })
   turned-in near r m =
       turned (set (x .slots) slot (r .«record»)) (λ i. kind) (length-set (x .slots) slot (r .«record»))
-      (stored (x .slots) slot e (s .slots-sound) near (omega (arith, s .many)) r m)
+      (stored (x .slots) slot e (s .slots-sound) (omega arith) (omega (arith, s .many)) r m)
 
 -- ---- turns, one after the other
 -- from one place in the log to a later one

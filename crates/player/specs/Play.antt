@@ -3,7 +3,7 @@ use mathlib.Core.Path.{_≡_}
 use mathlib.Core.List.{List, [], _∷_}
 use Prim.Native.Nat.{ℕ, _+_, _≤_}
 use lib.ListN.{length, replicate}
-use Rattle.rules.specs.Numbers.{slots}
+use Rattle.rules.specs.Numbers.{program-slots}
 use Rattle.rules.specs.Log.{read}
 use Rattle.rules.specs.Replay.{Replied, Last, stop}
 use Rattle.rules.specs.declared.Event.{Event}
@@ -14,11 +14,11 @@ use Rattle.player.specs.declared.State.{State}
 
 -- every slot is empty, and nothing is read
 abbrev pub begin : State
-begin = record { slots = replicate slots empty; place = 0; count = 0 }
+begin = record { slots = replicate program-slots empty; place = 0; count = 0 }
 
 -- the program's slots, each empty or one that comes from a start and events; and no more records are read than bytes
 pub record Sound (x : State) : Type 0 where
-  pub many : length (x .slots) ≡ slots
+  pub many : length (x .slots) ≡ program-slots
   pub slots-sound : AllSound (x .slots)
   pub count-low : x .count ≤ x .place
 

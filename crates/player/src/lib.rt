@@ -5,13 +5,13 @@ ghost use Rattle.player.specs.Play.{begin as begin-of, Sound};
 ghost use Rattle.player.specs.Piece.{in-buffer as in-buffer-of, Pieces};
 use connection::Connection;
 use rules::Answer;
+use rules::PROGRAM_SLOTS;
 use rules::Read;
-use rules::SLOTS;
 use text::LINE;
 
 // Where a replay stands: the slots, the place in the log, the records read.
 pub struct State {
-    pub slots: [Connection; SLOTS],
+    pub slots: [Connection; PROGRAM_SLOTS],
     pub place: usize,
     pub count: usize,
 }
@@ -30,7 +30,7 @@ impl State {
     {
         let c = Connection::empty();
         State {
-            slots: [c; SLOTS],
+            slots: [c; PROGRAM_SLOTS],
             place: 0,
             count: 0,
         }
@@ -65,7 +65,7 @@ pub fn fill(state: State, log: &[u8], out: &mut [u8], from: usize) -> Piece
                 next,
             } => {
                 let i = slot as usize;
-                if SLOTS <= i {
+                if PROGRAM_SLOTS <= i {
                     at = text::push_line(out, at, kind, Answer::Refused(1));
                 } else {
                     let s = table::in_slot(slots[i], event);

@@ -19,6 +19,7 @@ use Rattle.rules.specs.Kinds.{plain}
 use Rattle.rules.specs.Paper.{answered, paper, read-line}
 use Rattle.rules.specs.Log.{read, whole}
 use Rattle.rules.specs.Replay.{Replied, Last, End, Log, replay}
+use Rattle.rules.specs.Limits.{Limits}
 use Rattle.rules.specs.declared.Report.{Report}
 use Rattle.rules.specs.declared.Sending.the-variants.{Send, Sack, Nack, Timer, Resend}
 use Rattle.rules.specs.declared.Use.{Use}
@@ -305,9 +306,11 @@ abbrev pub named-twice : Report
 named-twice = report one-marked 10 (record { base = psn 10; bitmap = 1 })
 
 -- the one claim: each case is answered as it says. "Whole lengths: 14, 4, 6, 14, 18, 8, 7, 4" stands beside it, and the wrap of the
--- count by a fresh packet and by a known one, and that a packet which cack and a bit name is counted once.
+-- count by a fresh packet and by a known one, and that a packet which cack and a bit name is counted once; and rooms and slots
+-- at their limits (02, No. 6).
 pub record Starred : Type 0 where
   pub as-worked : map told cases ≡ map expected cases
   pub count-wraps : map wrapped (0 ∷ 16777215 ∷ []) ≡ 99 ∷ 99 ∷ []
   pub counted-once : named-twice ≡ record { newly = 1; place = psn 10; held = 0; alarms = 1 }
+  pub limits : Limits
   pub lengths : map whole (1 ∷ 2 ∷ 3 ∷ 4 ∷ 5 ∷ 6 ∷ 7 ∷ 8 ∷ []) ≡ 14 ∷ 4 ∷ 6 ∷ 14 ∷ 18 ∷ 8 ∷ 7 ∷ 4 ∷ []

@@ -15,12 +15,12 @@ psn-ok p = ltb (p .0) turn
 abbrev pub psn : ℕ → Psn
 psn n = record { 0 = n }
 
--- "Room: .. 64 to 512, a multiple of 64"
+-- "Room: .. 64 to 512, a multiple of 64"; 02, No. 6: "Raise the largest room to 2,048, still a multiple of 64"
 abbrev pub least-room : ℕ
 least-room = 64
 
 abbrev pub largest-room : ℕ
-largest-room = 512
+largest-room = 2048
 
 -- words of 64 PSNs enough for the largest room, from any bit of the first word on
 abbrev pub words : ℕ
@@ -66,6 +66,10 @@ reason-ok n = leb 1 n && leb n 6
 -- 01, What the card keeps: "of which the first 16 slots at most are used"
 abbrev pub slots : ℕ
 slots = 16
+
+-- 02, No. 6: "The replay program keeps 4 slots"
+abbrev pub program-slots : ℕ
+program-slots = 4
 
 -- "A log is at most 32,768 bytes"
 abbrev pub longest-log : ℕ

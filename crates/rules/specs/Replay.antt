@@ -4,7 +4,7 @@ use mathlib.Core.List.{List, [], _∷_}
 use Prim.Native.Nat.{ℕ, zero, suc}
 use lib.Dec.{eqb}
 use lib.ListN.{length, replicate}
-use Rattle.rules.specs.Numbers.{slots, longest-log}
+use Rattle.rules.specs.Numbers.{program-slots, longest-log}
 use Rattle.promise.specs.Outcome.{left}
 use Rattle.rules.specs.Connection.{Connection, empty}
 use Rattle.rules.specs.Table.{on}
@@ -49,6 +49,6 @@ unfoldable pub replay-from : ℕ → List ℕ → List Connection → ℕ → �
 replay-from zero log t place n = record { lines = []; last = End n }
 replay-from (suc most) log t place n = replied (λ u next. replay-from most log u next (suc n)) t place n (read log place)
 
--- "The program keeps 16 slots, empty at first"
+-- "The program keeps 16 slots, empty at first"; 02, No. 6: 4 of them
 unfoldable pub replay : List ℕ → Replayed
-replay log = replay-from (suc (length log)) log (replicate slots empty) 0 0
+replay log = replay-from (suc (length log)) log (replicate program-slots empty) 0 0

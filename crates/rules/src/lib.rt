@@ -4,10 +4,13 @@ use psn::Psn;
 // How many slots of a table are used at the most.
 pub const SLOTS: usize = 16;
 
+// How many slots the replay program keeps.
+pub const PROGRAM_SLOTS: usize = 4;
+
 // The smallest and the largest room; a room is a multiple of the smallest.
 pub const LEAST_ROOM: u32 = 64;
 
-pub const LARGEST_ROOM: u32 = 512;
+pub const LARGEST_ROOM: u32 = 2048;
 
 // Words of 64 packet numbers enough for the largest room, from any bit of the first word on.
 pub const WORDS: usize = LARGEST_ROOM as usize / 64 + 1;
