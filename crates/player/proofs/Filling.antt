@@ -16,9 +16,9 @@ use Rattle.lines.proofs.Room.{puts-whole}
 use Rattle.text.specs.Text.{line-text, lines-text, last-text, line-room}
 use Rattle.text.proofs.Telling.{line-short, last-short, lines-more, lines-one}
 use Rattle.player.specs.declared.State.{State}
-use Rattle.player.specs.Play.{Sound, Turned, stops}
+use Rattle.player.specs.Play.{Sound, Turned}
 use Rattle.player.specs.Piece.{in-buffer, Turns, none, Pieces}
-use Rattle.player.proofs.Turning.{turns-further, turns-more, turns-plays}
+use Rattle.player.proofs.Turning.{turns-further, turns-more}
 
 -- the text of some turns stands behind the first bytes
 pub record Filled (log : List ℕ) (x : State) (from : ℕ) (before out : List ℕ) (y : State) (at : ℕ) : Type 0 where
@@ -103,7 +103,7 @@ module _ {log : List ℕ} {x : State} {from : ℕ} {before out : List ℕ} {y : 
   filled-goes-on h = record {
     long = f .long;
     fits = f .within;
-    text = record { goes-on = λ _. (f .lines, f .turns, f .text); ends = λ e. absurd (false≢true (sym e)) };
+    text = record { lines = f .lines; turns = f .turns; goes-on = λ _. f .text; ends = λ e. absurd (false≢true (sym e)) };
     later = f .later;
     full = λ _. omega (arith, f .long);
     sound = f .sound;
@@ -118,13 +118,14 @@ module _ {log : List ℕ} {x : State} {from : ℕ} {before out : List ℕ} {y : 
       let last = stop n (y .place) (y .count) in
       let short = last-short last in
       let w = puts-whole q (omega (arith, f .within)) in
-      let plays = turns-plays (f .turns) (stops n e) in
       record {
         long = w .long ∙ f .long;
         fits = omega (arith, w .long, w .index, f .within);
         text = record {
-          goes-on = λ e. absurd (false≢true e);
-          ends = λ _. (f .lines ++ [], last, plays, w .bytes ∙ rw (f .text, append-nil (f .lines), append-assoc));
+          lines = f .lines;
+          turns = f .turns;
+          goes-on = λ m. absurd (false≢true m);
+          ends = λ _. (n, e, w .bytes ∙ rw (f .text, append-assoc));
         };
         later = still-later after p (omega (arith, w .index)) (w .later);
         full = λ e. absurd (false≢true e);

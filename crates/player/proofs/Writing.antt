@@ -1,12 +1,12 @@
 -- All that is written, piece after piece, is the text of the rules' replay, whatever the promise of a piece allows. Assumes nothing.
 use mathlib.Core.Path.{_≡_, ap, _∙_}
-use mathlib.Core.List.{List, _++_, append-assoc}
+use mathlib.Core.List.{List, [], _++_, append-assoc, append-nil}
 use Prim.Native.Nat.{ℕ}
-use Rattle.rules.specs.Replay.{Replied, Last, replay}
+use Rattle.rules.specs.Replay.{Replied, Last, stop, replay}
 use Rattle.text.specs.Text.{lines-text, last-text, head-text, text-of}
 use Rattle.text.proofs.Telling.{lines-more}
 use Rattle.player.specs.declared.State.{State}
-use Rattle.player.specs.Play.{begin, Plays}
+use Rattle.player.specs.Play.{begin, Plays, stops}
 use Rattle.player.specs.Piece.{Writes, ends, goes-on}
 use Rattle.player.proofs.Turning.{turns-plays}
 use Rattle.player.proofs.Playing.{plays-replay}
@@ -19,16 +19,17 @@ behind front x y z p q r = rw (p, q, r) (simp append-assoc)
 writes-plays : (log : List ℕ) {x : State} {front text : List ℕ} → Writes log x front text
     → (l : List Replied) × (last : Last) × Plays log x l last × (text ≡ front ++ (lines-text l ++ last-text last))
 writes-plays log (ends from before r after e p m) =
-    let t = p .text .ends m in
-    (t .0, t .1, t .2, t .3 ∙ ap (λ (u : List ℕ). u ++ (lines-text (t .0) ++ last-text (t .1))) e)
+    let t = p .text in
+    let u = t .ends m in
+    (t .lines ++ [], stop (u .0) (r .state .place) (r .state .count), turns-plays (t .turns) (stops (u .0) (u .1)), u .2 ∙ rw (e, append-nil (t .lines)))
 writes-plays log (goes-on {front = front} from before r after e p m w) =
-    let t = p .text .goes-on m in
+    let t = p .text in
     let u = writes-plays log w in (
-      t .0 ++ u .0,
+      t .lines ++ u .0,
       u .1,
-      turns-plays (t .1) (u .2),
-      behind front (lines-text (t .0)) (lines-text (u .0)) (last-text (u .1))
-          (t .2 ∙ ap (λ (f : List ℕ). f ++ lines-text (t .0)) e) (u .3) (lines-more (t .0) (u .0)),
+      turns-plays (t .turns) (u .2),
+      behind front (lines-text (t .lines)) (lines-text (u .0)) (last-text (u .1))
+          (t .goes-on m ∙ ap (λ (f : List ℕ). f ++ lines-text (t .lines)) e) (u .3) (lines-more (t .lines) (u .0)),
     )
 
 pub writes-replay : (log text : List ℕ) → Writes log begin head-text text → text ≡ text-of (replay log)

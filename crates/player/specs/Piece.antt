@@ -5,11 +5,13 @@ use mathlib.Core.List.{List, [], _∷_, _++_}
 use Prim.Native.Nat.{ℕ, _+_, _-_, _≤_, _<_}
 use lib.Dec.{ltb}
 use lib.ListN.{length, take, drop}
-use Rattle.rules.specs.Replay.{Replied, Last}
+use Rattle.rules.specs.Log.{read}
+use Rattle.rules.specs.Replay.{Replied, stop}
+use Rattle.rules.specs.declared.Read.the-variants.{Nothing}
 use Rattle.text.specs.Text.{lines-text, last-text, line-room}
 use Rattle.player.specs.declared.State.{State}
 use Rattle.player.specs.declared.Piece.{Piece}
-use Rattle.player.specs.Play.{Sound, Turned, Plays}
+use Rattle.player.specs.Play.{Sound, Turned}
 
 -- an index of n bytes: past their end, the end
 abbrev pub in-buffer : ℕ → ℕ → ℕ
@@ -20,10 +22,15 @@ pub data Turns (log : List ℕ) : State → List Replied → State → Type 0 wh
   none : {x : State} → Turns log x [] x
   one-more : {x y z : State} {l : Replied} {rest : List Replied} → Turned log x l y → Turns log y rest z → Turns log x (l ∷ rest) z
 
--- where more follows, these are the lines of some turns from x on; where not, of all that are left, and the last line
+-- the lines of some turns, which lead from x to where the replay stands after the piece; where no more follows, nothing is read there, and the
+-- last line stands behind them
 pub record Tells (log : List ℕ) (x : State) (front : List ℕ) (r : Piece) (text : List ℕ) : Type 0 where
-  pub goes-on : r .more ≡ true → (l : List Replied) × Turns log x l (r .state) × (text ≡ front ++ lines-text l)
-  pub ends : r .more ≡ false → (l : List Replied) × (last : Last) × Plays log x l last × (text ≡ front ++ (lines-text l ++ last-text last))
+  pub lines : List Replied
+  pub turns : Turns log x lines (r .state)
+  pub goes-on : r .more ≡ true → text ≡ front ++ lines-text lines
+  pub ends : r .more ≡ false
+      → (n : ℕ) × (read log (r .state .place) ≡ Nothing n)
+      × (text ≡ front ++ (lines-text lines ++ last-text (stop n (r .state .place) (r .state .count))))
 
 -- what `fill` promises: the buffer keeps its length; its first bytes, as many as the piece says, are those before the index and the text
 -- of the turns from x on, and the bytes behind them stay. More follows only where another line might not fit, and where one did at first,
