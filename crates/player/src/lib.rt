@@ -65,15 +65,14 @@ pub fn fill(state: State, log: &[u8], out: &mut [u8], from: usize) -> Piece
                 next,
             } => {
                 let i = slot as usize;
-                if PROGRAM_SLOTS <= i {
-                    at = text::push_line(out, at, kind, Answer::Refused(1));
-                } else {
+                let mut answer = Answer::Refused(1);
+                if i < PROGRAM_SLOTS {
                     let s = table::in_slot(slots[i], event);
-                    let answer = s.answer;
                     let after = s.record;
                     slots[i] = after;
-                    at = text::push_line(out, at, kind, answer);
+                    answer = s.answer;
                 }
+                at = text::push_line(out, at, kind, answer);
                 place = next;
                 count += 1;
             }

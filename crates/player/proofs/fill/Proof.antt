@@ -3,7 +3,7 @@ use borrow.Author.Needs.{needs}
 use mathlib.Core.Path.{_≡_}
 use mathlib.Core.List.{List}
 use mathlib.Core.Logic.{⊎-elim}
-use Prim.Native.Nat.{ℕ, _-_, _<_, _≤_}
+use Prim.Native.Nat.{ℕ, _+_, _-_, _<_, _≤_}
 use native.Mathlib.Omega.{arith}
 use lib.ListN.{length}
 use Rattle.rules.specs.Log.{read}
@@ -12,6 +12,7 @@ use Rattle.rules.specs.declared.Read.the-variants.{Record}
 use Rattle.connection.specs.Record.{empty}
 use Rattle.table.proofs.Slots.{getD-within}
 use Rattle.player.specs.declared.State.{State}
+use Rattle.player.specs.Play.{Turned}
 use Rattle.player.proofs.Turning.{answered-read, read-further, turned-past, turned-in}
 use Rattle.player.proofs.Filling.{Filled, filled-none, filled-more, filled-goes-on, filled-ends}
 use Rattle.player.proofs.fill.Statement.{statement}
@@ -54,6 +55,22 @@ reads k = answered-read (log-of k) (state-of k .place) _ _ (k .before .before .b
 further : (k : Here) → (state-of k .place < next-of k) × (next-of k ≤ length (log-of k))
 further k = read-further (log-of k) (state-of k .place) (slot-of k) (event-of k) (kind-of k) (next-of k) (reads k)
 
+-- and where it is answered: a turn
+turned : (c : tie.Joined1 Inv-loop μ-loop)
+    → Turned (log-of (c .before)) (state-of (c .before)) (record { kind = kind-of (c .before); answer = c .if1 .answer })
+    (record { slots = c .if1 .slots; place = next-of (c .before); count = state-of (c .before) .count + 1 })
+turned c =
+    let k = c .before in
+    let x = state-of k in
+    let sound = k .before .before .before .before .before .loop .inv .sound in
+    ⊎-elim
+    (λ w. let h : slot-of k < length (x .slots) = omega (arith, sound .many, w .0 .taken) in
+    rw (w .4, w .5)
+    (turned-in (log-of k) x sound (slot-of k) (event-of k) (kind-of k) (next-of k) (reads k) (w .0 .taken) (w .2 .result)
+    (rw (getD-within empty) at (w .2 .ensures))))
+    (λ w. rw (w .1, w .2) (turned-past (log-of k) x sound (slot-of k) (event-of k) (kind-of k) (next-of k) (reads k) (w .0 .left)))
+    (c .if1 .came)
+
 in-buffer-requires : tie.Need-in-buffer-requires Inv-loop μ-loop
 in-buffer-requires c κs = search needs
 
@@ -74,9 +91,6 @@ enum-known-slot c = search needs
 cast-i : tie.Need-cast-i Inv-loop μ-loop
 cast-i c = search needs
 
-push-line-requires : tie.Need-push-line-requires Inv-loop μ-loop
-push-line-requires c κs = search needs
-
 mul-in-slot : tie.Need-mul-in-slot Inv-loop μ-loop
 mul-in-slot c = search needs
 
@@ -87,7 +101,7 @@ in-slot-requires : tie.Need-in-slot-requires Inv-loop μ-loop
 in-slot-requires c κs =
     let k = c .before .before in
     let sound = k .before .before .before .before .before .loop .inv .sound in
-    let h : slot-of k < length (state-of k .slots) = omega (arith, sound .many, c .before .if1 .left) in
+    let h : slot-of k < length (state-of k .slots) = omega (arith, sound .many, c .before .if1 .taken) in
     rw (getD-within empty) (sound .slots-sound (slot-of k))
 
 mul-slots : tie.Need-mul-slots Inv-loop μ-loop
@@ -96,36 +110,27 @@ mul-slots c = search needs
 array-set-from-slots : tie.Need-array-set-from-slots Inv-loop μ-loop
 array-set-from-slots c = search needs
 
-push-line-requires-2 : tie.Need-push-line-requires-2 Inv-loop μ-loop
-push-line-requires-2 c κs = search needs
+push-line-requires : tie.Need-push-line-requires Inv-loop μ-loop
+push-line-requires c κs = search needs
 
 add-count : tie.Need-add-count Inv-loop μ-loop
 add-count c =
-    let k = c .before in
+    let k = c .before .before .before .before .before in
     let entry = k .before .before .before .before .before .before .before .before .before .before in
     let inv = k .before .before .before .before .before .loop .inv in
     record { fits = omega (arith, entry .good, inv .sound .count-low, further k) }
 
 loop-less : tie.Need-loop-less Inv-loop μ-loop
 loop-less c =
-    let k = c .before in
+    let k = c .before .before .before .before .before in
     omega (arith, further k)
 
 loop-again : tie.Need-loop-again Inv-loop μ-loop
 loop-again c =
-    let k = c .before in
-    let test = k .before .before .before .before in
-    let inv = test .before .loop .inv in
-    let x = state-of k in
-    ⊎-elim
-    (λ w. rw (w .5, w .6, w .7)
-    (filled-more inv (turned-past (log-of k) x (inv .sound) (slot-of k) (event-of k) (kind-of k) (next-of k) (reads k) (w .0 .taken))
-    (test .loop-test .taken) (w .2 .ensures)))
-    (λ w. let h : slot-of k < length (x .slots) = omega (arith, inv .sound .many, w .0 .left) in
-    rw (w .8, w .9, w .10)
-    (filled-more inv (turned-in (log-of k) x (inv .sound) (slot-of k) (event-of k) (kind-of k) (next-of k) (reads k) (w .0 .left) (w .2 .result)
-    (rw (getD-within empty) at (w .2 .ensures))) (test .loop-test .taken) (w .5 .ensures)))
-    (c .if1 .came)
+    let put = c .before .before in
+    let here = put .before .before in
+    let test = here .before .before .before .before .before in
+    filled-more (test .before .loop .inv) (turned here) (test .loop-test .taken) (put .push-line .ensures)
 
 enum-known-stop : tie.Need-enum-known-stop Inv-loop μ-loop
 enum-known-stop c = search needs
@@ -163,13 +168,12 @@ fill-spec =
     read-requires
     enum-known-slot
     cast-i
-    push-line-requires
     mul-in-slot
     array-copy-out-in-slot
     in-slot-requires
     mul-slots
     array-set-from-slots
-    push-line-requires-2
+    push-line-requires
     add-count
     loop-less
     loop-again
