@@ -66,9 +66,9 @@ turned c =
     ⊎-elim
     (λ w. let h : slot-of k < length (x .slots) = omega (arith, sound .many, w .0 .taken) in
     rw (w .4, w .5)
-    (turned-in (log-of k) x sound (slot-of k) (event-of k) (kind-of k) (next-of k) (reads k) (w .0 .taken) (w .2 .result)
+    (turned-in (log-of k) x sound (slot-of k) (event-of k) (kind-of k) (next-of k) (reads k) (omega (arith, w .0 .taken)) (w .2 .result)
     (rw (getD-within empty) at (w .2 .ensures))))
-    (λ w. rw (w .1, w .2) (turned-past (log-of k) x sound (slot-of k) (event-of k) (kind-of k) (next-of k) (reads k) (w .0 .left)))
+    (λ w. rw (w .1, w .2) (turned-past (log-of k) x sound (slot-of k) (event-of k) (kind-of k) (next-of k) (reads k) (omega (arith, w .0 .left))))
     (c .if1 .came)
 
 in-buffer-requires : tie.Need-in-buffer-requires Inv-loop μ-loop
