@@ -17,8 +17,7 @@ use Rattle·promise.specs.Line.{Line, refused}
 use Rattle·promise.specs.Outcome.{left}
 use Rattle·rules·specs.specs.Numbers.{psn}
 use Rattle·rules·specs.specs.Receiving.{Arrive}
-use Rattle·rules·specs.specs.Rows.{Row, Given, row, lines, arrives, sacks}
-use Rattle·rules·specs.specs.Bench.{bench}
+use Rattle·rules·specs.specs.Bench.{Row, Given, row, lines, bench, arrives, sacks}
 use Rattle·rules·specs.specs.declared.Sending.the-variants.{Send, Nack, Timer, Resend}
 use Rattle·rules·specs.specs.declared.Use.{Use}
 use Rattle·rules·specs.specs.declared.Use.the-variants.{Sends, Receives}

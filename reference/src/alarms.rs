@@ -1,7 +1,6 @@
 //! The marks of each slot, followed by events and answers alone: no record of a side is looked at. So the false alarms of a SACK are counted once
 //! more, and it is told in which ways SACKs met marks.
 
-use crate::log::answer_kind;
 use crate::side::{distance, on, set_bits, Outcome, HALF, TURN};
 use std::collections::{BTreeMap, BTreeSet};
 
@@ -26,18 +25,13 @@ struct Marks {
 pub struct Followed(BTreeMap<u64, Marks>);
 
 impl Followed {
-    /// The packets that are marked in a slot.
-    pub fn marked(&self, slot: u64) -> impl Iterator<Item = u32> + '_ {
-        self.0.get(&slot).into_iter().flat_map(|marks| marks.marked.iter().copied())
-    }
-
     /// In which ways a SACK met marks, where the event was one. The line must have as many false alarms as are found here.
     pub fn event(&mut self, slot: u64, kind: usize, fields: &[u64], outcome: &Outcome) -> Vec<usize> {
         let Ok(done) = outcome else {
             return vec![];
         };
         let marks = self.0.entry(slot).or_default();
-        match answer_kind(kind) {
+        match kind {
             1 => *marks = Marks { place: on(fields[1] as u32, TURN - 1), ..Marks::default() },
             5 => {
                 let (ways, alarms) = marks.sack(fields[0] as u32, fields[1] as u32, fields[2], &done.values);

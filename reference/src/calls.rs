@@ -9,13 +9,13 @@
 //!     5 fill    the first a bytes become b
 //!     6 read    at place b of the first a bytes
 //!     7 write   kind c with the fields and slot b into the first a bytes
-//!     8 count   a receiver started at PSN a with its count set to b; then an arrival with size c, and flags, entropy, PSN and its SACK's MPR of the fields
+//!     8 count   a receiver started at PSN a with its count set to b; then an arrival with size c, and flags, entropy and PSN of the fields
 //!     9 lent    the same over lent words
 
-use crate::generate::{around_mpr, edge, host_mpr, some_mpr, Chance};
+use crate::alarms;
+use crate::generate::{edge, Chance};
 use crate::log::{self, Record, Slot, KINDS, LONGEST, PSN_WIDTH, SLOTS};
 use crate::side::{contradiction, distance, on, set_bits, Outcome, Receiver, CONTRADICTIONS, HALF, LARGEST_ROOM, TURN};
-use crate::{alarms, ranges};
 use std::collections::BTreeMap;
 
 const TABLE: usize = 20;
@@ -32,13 +32,11 @@ const OPS: [(&str, &[&str]); 9] = [
     ("fill", &["bytes", "byte"]),
     ("read", &["bytes", "place"]),
     ("write", &["bytes", "slot"]),
-    ("count", &["first", "count", "size", "flags", "entropy", "psn", "mpr"]),
-    ("lent", &["first", "count", "size", "flags", "entropy", "psn", "mpr"]),
+    ("count", &["first", "count", "size", "flags", "entropy", "psn"]),
+    ("lent", &["first", "count", "size", "flags", "entropy", "psn"]),
 ];
 
 const TAKES_EVENT: [u64; 2] = [1, 7];
-/// Their MPR is 0 where words leave it out.
-const WITH_MPR: [u64; 2] = [8, 9];
 
 pub type Call = [u64; 8];
 
@@ -58,7 +56,6 @@ pub struct Library {
     slots: Vec<Slot>,
     bytes: Vec<u8>,
     marks: alarms::Followed,
-    ranges: ranges::Followed,
 }
 
 /// The kind and the fields of a call's event, if each number fits: a PSN 32 bits, another field its width.
@@ -74,19 +71,15 @@ fn event_of(call: &Call) -> Option<(usize, Vec<u64>)> {
 fn numbers(kind: usize, outcome: &Outcome) -> Vec<u64> {
     match outcome {
         Err(number) => vec![(*number).into(), 0],
-        Ok(done) => [&[0, log::answer_kind(kind) as u64], &done.values[..], &done.unprinted[..]].concat(),
+        Ok(done) => [&[0, kind as u64], &done.values[..], &done.unprinted[..]].concat(),
     }
 }
 
-/// What an arrival was judged, with the NACK's reason or whether the SACK has an MPR; or its refusal.
+/// What an arrival was judged, with what only the library hands out; or its refusal.
 fn judged(outcome: &Outcome) -> String {
     match outcome {
         Err(number) => format!("refused {number}"),
-        Ok(done) => match (done.unprinted.first(), done.values.get(8)) {
-            (Some(reason), _) => format!("arrival {} with {reason}", done.values[0]),
-            (None, None) => format!("arrival {} without MPR", done.values[0]),
-            (None, Some(_)) => format!("arrival {} with MPR", done.values[0]),
-        },
+        Ok(done) => format!("arrival {} with {}", done.values[0], done.unprinted[0]),
     }
 }
 
@@ -147,7 +140,7 @@ fn place_class(place: u64, end: u64) -> &'static str {
 
 impl Library {
     pub fn new() -> Self {
-        Library { slots: vec![None; TABLE], bytes: vec![0; BYTES], marks: alarms::Followed::default(), ranges: ranges::Followed::default() }
+        Library { slots: vec![None; TABLE], bytes: vec![0; BYTES], marks: alarms::Followed::default() }
     }
 
     /// The line of a call.
@@ -212,13 +205,10 @@ impl Library {
 
     fn event(&mut self, lent: usize, slot: u64, (kind, fields): (usize, Vec<u64>), seen: &mut Seen) -> Option<Vec<u64>> {
         let table = self.slots.get_mut(..lent)?;
-        let stood = table.get(slot as usize).and_then(|slot| slot.as_ref()).map(|c| (c.sender.place, c.sender.outstanding()));
+        let stood = table.get(slot as usize).and_then(|slot| slot.as_ref()).map(|(sender, _)| (sender.place, sender.outstanding()));
         let outcome = log::event(table, slot as usize, kind, &fields);
-        if log::answer_kind(kind) == 5 {
+        if kind == 5 {
             judged_bits(stood, &fields, &outcome, seen);
-        }
-        for way in self.ranges.event(slot, kind, &fields, &outcome, &self.marks) {
-            saw(seen, way.into());
         }
         for way in self.marks.event(slot, kind, &fields, &outcome) {
             saw(seen, alarms::WAYS[way].into());
@@ -243,17 +233,11 @@ fn record(slot: &Slot, seen: &mut Seen) -> Vec<u64> {
     match slot {
         None => {
             saw(seen, "record of no connection".into());
-            vec![0; 3 + 4 + 2 + 3 + 1]
+            vec![0; 4 + 2 + 3 + 1]
         }
-        Some(connection) => {
-            let sender = &connection.sender;
-            saw(seen, format!("record of a connection {} dynamic MPR", if connection.dynamic { "with" } else { "without" }));
-            if sender.mpr < sender.room {
-                saw(seen, "record with an MPR below the room".into());
-            }
-            if sender.outstanding() > sender.mpr {
-                saw(seen, "record with more outstanding than the MPR".into());
-            }
+        Some((sender, receiver)) => {
+            let (send, receive) = (sender.record(), receiver.record());
+            saw(seen, "record of a connection".into());
             if sender.has_marks() {
                 saw(seen, "record with marks".into());
             }
@@ -263,7 +247,7 @@ fn record(slot: &Slot, seen: &mut Seen) -> Vec<u64> {
             if sender.sizes().len() == LARGEST_ROOM as usize {
                 saw(seen, "record with the largest room outstanding".into());
             }
-            connection.record()
+            [send, receive, sender.sizes()].concat()
         }
     }
 }
@@ -325,7 +309,7 @@ fn write(buffer: &mut [u8], slot: u8, kind: usize, fields: &[u64], seen: &mut Se
 
 /// Ops 8 and 9.
 fn counted(call: &Call, seen: &mut Seen) -> Option<Vec<u64>> {
-    let [op, first, count, size, flags, entropy, psn, mpr] = *call;
+    let [op, first, count, size, flags, entropy, psn, _] = *call;
     let name = OPS[op as usize - 1].0;
     let first = u32::try_from(first).ok()?;
     let count = u32::try_from(count).ok()?;
@@ -333,14 +317,12 @@ fn counted(call: &Call, seen: &mut Seen) -> Option<Vec<u64>> {
     let flags = u8::try_from(flags).ok()?;
     let entropy = u32::try_from(entropy).ok()?;
     let psn = u32::try_from(psn).ok()?;
-    let mpr = u8::try_from(mpr).ok()?;
     if first >= TURN {
         saw(seen, format!("{name}: start refused 5"));
         return Some(vec![5, 0]);
     }
     let mut receiver = Receiver::new(64, first);
     receiver.bytes = count;
-    receiver.told = mpr;
     let outcome = if psn < TURN { receiver.arrive(psn, size, flags, entropy) } else { Err(5) };
     saw(seen, format!("{name}: {}", judged(&outcome)));
     if receiver.bytes < count {
@@ -376,23 +358,16 @@ pub fn reachable() -> Vec<String> {
     for what in ["event past 16 in a longer table", "empty slots in use", "empty with slots in use left", "poke", "fill"] {
         add(what.into());
     }
-    for what in ["record of no connection", "record of a connection with dynamic MPR", "record of a connection without dynamic MPR"] {
-        add(what.into());
-    }
-    for what in ["record with marks", "record with an MPR below the room", "record with more outstanding than the MPR"] {
+    for what in ["record of no connection", "record of a connection", "record with marks"] {
         add(what.into());
     }
     for what in ["record with more than 64 outstanding", "record with the largest room outstanding"] {
         add(what.into());
     }
-    // the order of refusals, kind by kind
-    let (start, sack): (&[u8], &[u8]) = (&[1, 3, 4, 5], &[1, 2, 5, 17, 8]);
-    let refusals: [&[u8]; 11] =
-        [start, &[1, 2], &[1, 2, 6, 7], &[1, 2, 5, 6, 14], sack, &[1, 2, 5, 15, 8], &[1, 2, 5, 8], &[1, 2, 9, 18], start, &[1, 2, 23], sack];
-    // fresh and known
-    let sacks = ["arrival 0 without MPR", "arrival 0 with MPR", "arrival 1 without MPR", "arrival 1 with MPR"];
-    // each other arrival answer, with the reason beside it
-    let judgements = [&sacks[..], &["arrival 2 with 3", "arrival 3 with 4", "arrival 4 with 1", "arrival 5 with 2"]].concat();
+    // the order of document 01's refusals, kind by kind
+    let refusals: [&[u8]; 8] = [&[1, 3, 4, 5], &[1, 2], &[1, 2, 6, 7], &[1, 2, 5, 6, 14], &[1, 2, 5, 17, 8], &[1, 2, 5, 15, 8], &[1, 2, 5, 8], &[1, 2, 9]];
+    // each arrival answer, with the MPR or the reason beside it
+    let judgements = ["arrival 0 with 0", "arrival 1 with 0", "arrival 2 with 3", "arrival 3 with 4", "arrival 4 with 1", "arrival 5 with 2"];
     for (kind, numbers) in KINDS.iter().zip(refusals) {
         let name = kind.name;
         numbers.iter().for_each(|number| add(format!("{name}: refused {number}")));
@@ -409,7 +384,7 @@ pub fn reachable() -> Vec<String> {
             add(format!("write a {name} refused 5 before 16"));
         }
     }
-    CONTRADICTIONS.iter().chain(&alarms::WAYS).chain(&ranges::ways()).for_each(|way| add(way.to_string()));
+    CONTRADICTIONS.iter().chain(&alarms::WAYS).for_each(|way| add(way.to_string()));
     for (i, (_, name)) in EDGES.iter().enumerate() {
         add(format!("one bit, for {name}: {}", if [3, 4].contains(&i) { "not 17" } else { "17" }));
     }
@@ -424,7 +399,8 @@ pub fn reachable() -> Vec<String> {
             add(format!("{name}: {what}"));
         }
         judgements.iter().for_each(|judgement| add(format!("{name}: {judgement}")));
-        sacks.iter().for_each(|judgement| add(format!("{name}: {judgement} wraps")));
+        // fresh and known
+        judgements[..2].iter().for_each(|judgement| add(format!("{name}: {judgement} wraps")));
     }
     all
 }
@@ -445,11 +421,7 @@ pub fn from_words(line: &str) -> Result<Call, String> {
     let mut at: Vec<usize> = (1..=fields.len()).collect();
     let mut taken = 0;
     while taken < fields.len() {
-        let word = match words.next() {
-            Some(word) => word,
-            None if WITH_MPR.contains(&call[0]) && fields[taken] == "mpr" => break,
-            None => return Err(format!("{} is missing", fields[taken])),
-        };
+        let word = words.next().ok_or(format!("{} is missing", fields[taken]))?;
         let (key, value) = word.split_once('=').ok_or(format!("{word} is not NAME=NUMBER"))?;
         if key != fields[taken] {
             return Err(format!("{key} stands where {} belongs", fields[taken]));
@@ -539,20 +511,19 @@ fn some_bitmap(chance: &mut Chance) -> u64 {
 /// The fields of an event of a kind, mostly sensible for a slot: its two sides' PSNs and rooms are (place + 1, outstanding) and (E, room).
 fn some_fields(chance: &mut Chance, kind: u64, slot: &Slot, first: u32) -> Vec<u64> {
     let (sent, outstanding, expected, room) = match slot {
-        Some(c) => (on(c.sender.place, 1), c.sender.outstanding(), c.receiver.expected, c.receiver.room),
+        Some((sender, receiver)) => (on(sender.place, 1), sender.outstanding(), receiver.expected, receiver.room),
         None => (first, 4, first, 64),
     };
     let entropy = chance.below(1 << 32);
     match kind {
-        1 | 9 => {
+        1 => {
             let some_room = |chance: &mut Chance| match chance.below(12) {
                 0 => chance.pick(&[0, 63, 65, 100, LARGEST + 1, LARGEST + 64, 65_535, 65_536]),
                 1 => LARGEST,
                 _ => 64 * (1 + chance.below(LARGEST / 64)),
             };
             let (send, receive) = (some_room(chance), some_room(chance));
-            let seldom = if kind == 9 { 3 } else { 8 };
-            let psns = if chance.one_in(seldom) { [near(chance, first, 64), near(chance, first, 64)] } else { [first.into(), first.into()] };
+            let psns = if chance.one_in(8) { [near(chance, first, 64), near(chance, first, 64)] } else { [first.into(), first.into()] };
             vec![send, psns[0], receive, psns[1]]
         }
         3 => vec![some_size(chance)],
@@ -581,22 +552,11 @@ fn some_fields(chance: &mut Chance, kind: u64, slot: &Slot, first: u32) -> Vec<u
             };
             vec![psn, some_reason(chance)]
         }
-        10 if chance.one_in(60) => vec![256],
-        10 => vec![host_mpr(chance, room)],
-        11 => {
-            let mut fields = some_fields(chance, 5, slot, first);
-            fields.push(if chance.one_in(60) { 256 } else { some_mpr(chance) });
-            fields
-        }
         _ => vec![],
     }
 }
 
-const KINDS_IN_USE: [u64; 22] = [1, 2, 3, 3, 3, 3, 3, 3, 4, 4, 4, 4, 4, 4, 5, 5, 5, 6, 6, 7, 8, 8];
-const DYNAMIC_KINDS_IN_USE: [u64; 24] = [1, 9, 2, 3, 3, 3, 3, 3, 3, 4, 4, 4, 4, 4, 5, 11, 11, 11, 10, 10, 6, 7, 8, 8];
-
-/// An event on some slot, with dynamic MPR of its kinds too.
-fn an_event(chance: &mut Chance, script: &mut Script, first: u32, dynamic: bool) {
+fn an_event(chance: &mut Chance, script: &mut Script, first: u32) {
     let any = chance.below(22);
     let lent = if chance.one_in(4) { chance.pick(&[0, 1, 15, 16, 17, 18, 19, any]) } else { 20 };
     let slot = match chance.below(12) {
@@ -606,11 +566,9 @@ fn an_event(chance: &mut Chance, script: &mut Script, first: u32, dynamic: bool)
     };
     let record = script.library.slots.get(slot as usize).cloned().flatten();
     let kind = match record {
-        None if chance.one_in(4) => chance.below(if dynamic { 13 } else { 9 }),
-        None if dynamic => chance.pick(&[1, 9, 9]),
+        None if chance.one_in(4) => chance.below(10),
         None => 1,
-        Some(_) if dynamic => chance.pick(&DYNAMIC_KINDS_IN_USE),
-        Some(_) => chance.pick(&KINDS_IN_USE),
+        Some(_) => chance.pick(&[1, 2, 3, 3, 3, 3, 3, 3, 4, 4, 4, 4, 4, 4, 5, 5, 5, 6, 6, 7, 8, 8]),
     };
     let fields = some_fields(chance, kind, &record, first);
     script.event(lent, slot, kind, &fields);
@@ -640,31 +598,11 @@ fn too_early(chance: &mut Chance, script: &mut Script, first: u32, room: u64) {
     }
 }
 
-/// In slot 0 the MPR falls and rises while more than its smallest is outstanding; in slot 1 the host sets it. Their records are looked at in between.
-fn falls_and_hosts(chance: &mut Chance, script: &mut Script, first: u32) {
-    let start = |chance: &mut Chance| chance.pick(&[9, 9, 9, 1]);
-    let (room, host_room) = (chance.pick(&[192, 320, 448]), chance.pick(&[64, 64, 128, 256, LARGEST]));
-    for (slot, fields) in [[room, first.into(), 64, 0], [64, 0, host_room, first.into()]].iter().enumerate() {
-        script.event(20, slot as u64, 2, &[]);
-        script.event(20, slot as u64, start(chance), fields);
-    }
-    for _ in 0..12 {
-        let events = script.library.slots[0].as_ref().map_or(vec![], |connection| around_mpr(chance, &connection.sender));
-        for (kind, fields) in events {
-            script.event(20, 0, kind as u64, &fields);
-        }
-        script.event(20, 1, 10, &[host_mpr(chance, host_room as u32)]);
-        let psn = on(first, chance.below(64) as u32).into();
-        script.event(20, 1, 4, &[psn, some_size(chance), some_flags(chance), chance.below(1 << 32)]);
-        script.call([3, chance.below(2), 0, 0, 0, 0, 0, 0]);
-    }
-}
-
 /// A log is put together in the bytes, by writes and pokes, and read.
 fn a_log(chance: &mut Chance, script: &mut Script, first: u32) {
     match chance.below(8) {
         0..=2 => {
-            let kind = chance.below(KINDS.len() as u64 + 1);
+            let kind = chance.below(9);
             let mut fields = some_fields(chance, kind, &None, first);
             let psns = KINDS.get((kind as usize).wrapping_sub(1)).map_or(&[][..], |k| k.fields).iter().map(|field| field.1 == PSN_WIDTH);
             if chance.one_in(2) {
@@ -682,16 +620,16 @@ fn a_log(chance: &mut Chance, script: &mut Script, first: u32) {
             script.call([6, end, 0, 0, 0, 0, 0, 0]);
             script.call([6, end, whole, 0, 0, 0, 0, 0]);
         }
-        3 => script.call([4, chance.pick(&[0, 1, 2, 3, 40, BYTES as u64, 32_768]), chance.pick(&[0x4D, 0x52, 0, 12, 255, 256]), 0, 0, 0, 0, 0]),
+        3 => script.call([4, chance.pick(&[0, 1, 2, 3, 40, BYTES as u64, 32_768]), chance.pick(&[0x4D, 0x52, 0, 9, 255, 256]), 0, 0, 0, 0, 0]),
         4 => script.call([5, chance.pick(&[0, 1, 40, BYTES as u64, BYTES as u64 + 1]), chance.pick(&[0, 0x4D, 0x52, 256]), 0, 0, 0, 0, 0]),
         5 => {
             // a record that begins inside the bytes
             let at = 1 + chance.below(40);
-            let kind = chance.below(KINDS.len() as u64 + 2);
+            let kind = chance.below(10);
             for (i, byte) in [0x4D, 0x52, kind].into_iter().enumerate() {
                 script.call([4, at + i as u64, byte, 0, 0, 0, 0, 0]);
             }
-            let end = at + chance.pick(&[1, 2, 3, 4, 5, 14, 18, 19, 30]);
+            let end = at + chance.pick(&[1, 2, 3, 4, 14, 18, 30]);
             script.call([6, end, at, 0, 0, 0, 0, 0]);
         }
         _ => {
@@ -712,9 +650,9 @@ pub fn sequence(seed: u64, i: usize) -> Vec<Call> {
         _ => chance.below(TURN.into()) as u32,
     };
     let mut script = Script { library: Library::new(), calls: Vec::new() };
-    // one in nine sends so much that its room is full, and marks much of it
-    if i % 9 == 0 {
-        let room = if i % 63 == 0 { LARGEST } else { chance.pick(&[64, 128]) };
+    // one in eight sends so much that its room is full, and marks much of it
+    if chance.one_in(8) {
+        let room = if chance.one_in(8) { LARGEST } else { chance.pick(&[64, 128]) };
         script.event(20, 0, 1, &[room, first.into(), room, first.into()]);
         for _ in 0..room + chance.below(2) {
             script.event(20, 0, 3, &[48 + chance.below(9169)]);
@@ -723,14 +661,9 @@ pub fn sequence(seed: u64, i: usize) -> Vec<Call> {
         too_early(chance, &mut script, first, room);
         script.call([3, 0, 0, 0, 0, 0, 0, 0]);
     }
-    // one in three has dynamic MPR, and every third of them much of it
-    let dynamic = i % 3 == 2;
-    if i % 9 == 5 {
-        falls_and_hosts(chance, &mut script, first);
-    }
     for _ in 0..45 {
         match chance.below(20) {
-            0..=11 => an_event(chance, &mut script, first, dynamic),
+            0..=11 => an_event(chance, &mut script, first),
             12 => script.call([3, chance.pick(&[0, 0, 0, 1, 2, 15, 16, 17, 18, 19, 20, u64::MAX]), 0, 0, 0, 0, 0, 0]),
             13 if chance.one_in(2) => script.call([2, chance.pick(&[0, 1, 2, 15, 16, 17, 18, 20, 21]), 0, 0, 0, 0, 0, 0]),
             14 | 15 => {
@@ -745,8 +678,7 @@ pub fn sequence(seed: u64, i: usize) -> Vec<Call> {
                     1 => on(begun as u32, TURN - 1 - chance.below(64) as u32).into(),
                     _ => near(chance, begun as u32, 64),
                 };
-                let mpr = chance.pick(&[0, 0, 0, 1, 2, 16, 255, 256]);
-                script.call([8 + chance.below(2), begun, count, some_size(chance), some_flags(chance), chance.below(1 << 32), psn, mpr]);
+                script.call([8 + chance.below(2), begun, count, some_size(chance), some_flags(chance), chance.below(1 << 32), psn, 0]);
             }
             16..=18 => a_log(chance, &mut script, first),
             19 if chance.one_in(4) => {
@@ -755,7 +687,7 @@ pub fn sequence(seed: u64, i: usize) -> Vec<Call> {
                 call[0] = chance.pick(&[0, 1, 2, 3, 4, 5, 6, 7, 8, 9, 10, 255, 256, 1 << 32, u64::MAX]);
                 script.call(call);
             }
-            _ => an_event(chance, &mut script, first, dynamic),
+            _ => an_event(chance, &mut script, first),
         }
     }
     for slot in [0, 1, 2, 15, chance.pick(&[3, 14, 16, 17, 18, 19])] {

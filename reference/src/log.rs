@@ -1,11 +1,9 @@
 //! The event log, from document 01: its bytes, and the same in words.
 
-use crate::side::{done, room_allowed, Connection, Outcome, Receiver, Sender, TURN};
+use crate::side::{done, room_allowed, Outcome, Receiver, Sender, TURN};
 use std::fmt::Write;
 
 pub const LONGEST: usize = 32_768;
-/// The length of the longest record.
-pub const LONGEST_RECORD: usize = 19;
 pub const SLOTS: usize = 16;
 pub const PROGRAM_SLOTS: usize = 4;
 /// How many bytes a packet number takes. No other field takes as many.
@@ -17,11 +15,9 @@ pub struct Kind {
     pub fields: &'static [(&'static str, usize)],
 }
 
-const START: &[(&str, usize)] = &[("send_room", 2), ("send_psn", 3), ("receive_room", 2), ("receive_psn", 3)];
-
-/// Kind 1 stands first. Those of dynamic MPR (02, No. 7) come last.
-pub const KINDS: [Kind; 11] = [
-    Kind { name: "start", fields: START },
+/// Kind 1 stands first.
+pub const KINDS: [Kind; 8] = [
+    Kind { name: "start", fields: &[("send_room", 2), ("send_psn", 3), ("receive_room", 2), ("receive_psn", 3)] },
     Kind { name: "close", fields: &[] },
     Kind { name: "send", fields: &[("size", 2)] },
     Kind { name: "arrive", fields: &[("psn", 3), ("size", 2), ("flags", 1), ("entropy", 4)] },
@@ -29,19 +25,7 @@ pub const KINDS: [Kind; 11] = [
     Kind { name: "nack", fields: &[("psn", 3), ("reason", 1)] },
     Kind { name: "timer", fields: &[("psn", 3)] },
     Kind { name: "resend", fields: &[] },
-    Kind { name: "start-mpr", fields: START },
-    Kind { name: "set-mpr", fields: &[("mpr", 1)] },
-    Kind { name: "sack-mpr", fields: &[("cack", 3), ("base", 3), ("bitmap", 8), ("mpr", 1)] },
 ];
-
-/// The kind that an answer is of: both starts have one, and both SACKs.
-pub fn answer_kind(kind: usize) -> usize {
-    match kind {
-        9 => 1,
-        11 => 5,
-        other => other,
-    }
-}
 
 #[derive(Clone, Debug, PartialEq)]
 pub struct Record {
@@ -136,7 +120,7 @@ pub fn read(log: &[u8], at: usize) -> Result<Option<(Record, usize)>, u8> {
     match rest {
         [] => Ok(None),
         [_] | [_, _] => Err(10),
-        [b'M', b'R', kind @ 1..=11, body @ ..] => {
+        [b'M', b'R', kind @ 1..=8, body @ ..] => {
             let kind = *kind as usize;
             let mut values = body.get(1..).unwrap_or(&[]);
             let slot = *body.first().ok_or(10)?;
@@ -156,14 +140,14 @@ pub fn read(log: &[u8], at: usize) -> Result<Option<(Record, usize)>, u8> {
     }
 }
 
-/// A slot of a table: nothing, or a connection.
-pub type Slot = Option<Connection>;
+/// A slot of a table: nothing, or both sides of a connection.
+pub type Slot = Option<(Sender, Receiver)>;
 
 /// An event of a kind on a slot of the slots lent.
 pub fn event(lent: &mut [Slot], slot: usize, kind: usize, f: &[u64]) -> Outcome {
     let slot = lent.iter_mut().take(SLOTS).nth(slot).ok_or(1)?;
     let high = KINDS[kind - 1].fields.iter().zip(f).any(|(&(_, width), &v)| width == PSN_WIDTH && v >= TURN.into());
-    if kind == 1 || kind == 9 {
+    if kind == 1 {
         if slot.is_some() {
             return Err(3);
         }
@@ -173,11 +157,10 @@ pub fn event(lent: &mut [Slot], slot: usize, kind: usize, f: &[u64]) -> Outcome 
         if high {
             return Err(5);
         }
-        let (sender, receiver) = (Sender::new(f[0] as u16, f[1] as u32), Receiver::new(f[2] as u16, f[3] as u32));
-        *slot = Some(Connection::new(kind == 9, sender, receiver));
+        *slot = Some((Sender::new(f[0] as u16, f[1] as u32), Receiver::new(f[2] as u16, f[3] as u32)));
         return done(vec![]);
     }
-    let connection = slot.as_mut().ok_or(2)?;
+    let (sender, receiver) = slot.as_mut().ok_or(2)?;
     if high {
         return Err(5);
     }
@@ -186,20 +169,18 @@ pub fn event(lent: &mut [Slot], slot: usize, kind: usize, f: &[u64]) -> Outcome 
             *slot = None;
             done(vec![])
         }
-        3 => connection.sender.send(f[0] as u16),
-        4 => connection.receiver.arrive(f[0] as u32, f[1] as u16, f[2] as u8, f[3] as u32),
-        5 => connection.sack(f[0] as u32, f[1] as u32, f[2], 0),
-        6 => connection.sender.nack(f[0] as u32, f[1] as u8),
-        7 => connection.sender.timer(f[0] as u32),
-        8 => connection.sender.resend(),
-        10 => connection.set_mpr(f[0] as u8),
-        _ => connection.sack(f[0] as u32, f[1] as u32, f[2], f[3] as u8),
+        3 => sender.send(f[0] as u16),
+        4 => receiver.arrive(f[0] as u32, f[1] as u16, f[2] as u8, f[3] as u32),
+        5 => sender.sack(f[0] as u32, f[1] as u32, f[2]),
+        6 => sender.nack(f[0] as u32, f[1] as u8),
+        7 => sender.timer(f[0] as u32),
+        _ => sender.resend(),
     }
 }
 
 #[derive(Clone, Default)]
 pub struct Card {
-    pub slots: [Slot; PROGRAM_SLOTS],
+    slots: [Slot; PROGRAM_SLOTS],
 }
 
 impl Card {

@@ -20,7 +20,6 @@ mod alarms;
 mod calls;
 mod generate;
 mod log;
-mod ranges;
 mod side;
 mod tell;
 
@@ -148,10 +147,7 @@ const REACHABLE: &[(usize, &[u64])] = &[
     (5, &[0, 1, 2, 17, 8]),
     (6, &[0, 1, 2, 8, 15]),
     (7, &[0, 1, 2, 8]),
-    (8, &[0, 1, 2, 9, 18]),
-    (9, &[0, 1, 3, 4]),
-    (10, &[0, 1, 2, 23]),
-    (11, &[0, 1, 2, 17, 8]),
+    (8, &[0, 1, 2, 9]),
 ];
 
 /// How often each (kind, answer) pair was seen; and under kinds that no record has, each of `rare`.
@@ -164,16 +160,15 @@ const WINDOW: usize = usize::MAX - 5;
 const COUNTED: (usize, u64) = (usize::MAX - 2, 4);
 const CONTRADICTS: usize = usize::MAX - 3;
 const ALARMS: usize = usize::MAX - 4;
-const RANGES: usize = usize::MAX - 6;
 
 /// For so many logs, each of `rare` must be met at least once.
 const ONE_IN: u64 = 200;
 
 /// A text longer than two of the program's buffers, which it writes when they are full; a move over more than a word, and over the largest room, of
-/// E by an arrival and of the place by a SACK; a repeat that is seen to be counted; a SACK that contradicts itself in each of the ways of `side::contradiction`; a
-/// SACK that meets marks in each of those of `alarms`; and an event that meets the MPR in each of those of `ranges`.
+/// E by an arrival and of the place by a SACK; a repeat that is seen to be counted; a SACK that contradicts itself in each of the ways of `side::contradiction`; and a
+/// SACK that meets marks in each of those of `alarms`.
 fn rare() -> Vec<((usize, u64), &'static str)> {
-    fn ways<'a>(class: usize, names: &'a [&'static str]) -> impl Iterator<Item = ((usize, u64), &'static str)> + 'a {
+    fn ways(class: usize, names: &'static [&'static str]) -> impl Iterator<Item = ((usize, u64), &'static str)> {
         names.iter().enumerate().map(move |(way, name)| ((class, way as u64), *name))
     }
     let mut all = vec![
@@ -186,7 +181,6 @@ fn rare() -> Vec<((usize, u64), &'static str)> {
     ];
     all.extend(ways(CONTRADICTS, &side::CONTRADICTIONS));
     all.extend(ways(ALARMS, &alarms::WAYS));
-    all.extend(ways(RANGES, &ranges::ways()));
     all
 }
 
@@ -195,8 +189,7 @@ fn compare_one(i: usize, seed: u64, command: &[String], seen: &mut Seen) {
     let log = generate::log(seed, i);
     // by slot and kind, where E and the place stand: one behind; and by slot the count / 256 of the last SACK, and the last PSN sent
     let (mut ends, mut counts, mut sent) = (BTreeMap::new(), BTreeMap::new(), BTreeMap::new());
-    let (mut marks, mut ranges) = (alarms::Followed::default(), ranges::Followed::default());
-    let range_ways = ranges::ways();
+    let mut marks = alarms::Followed::default();
     let last = log::replay(&log, |record, outcome| {
         let answer = match outcome {
             Err(number) => u64::from(*number),
@@ -204,15 +197,11 @@ fn compare_one(i: usize, seed: u64, command: &[String], seen: &mut Seen) {
             Ok(_) => 0,
         };
         *seen.entry((record.kind, answer)).or_default() += 1;
-        for way in ranges.event(record.slot.into(), record.kind, &record.fields, outcome, &marks) {
-            let way = range_ways.iter().position(|name| *name == way).expect("a way has its name");
-            *seen.entry((RANGES, way as u64)).or_default() += 1;
-        }
         for way in marks.event(record.slot.into(), record.kind, &record.fields, outcome) {
             *seen.entry((ALARMS, way as u64)).or_default() += 1;
         }
         let turn = u64::from(side::TURN);
-        match (log::answer_kind(record.kind), outcome) {
+        match (record.kind, outcome) {
             (1, Ok(_)) => {
                 ends.insert((record.slot, 4), (record.fields[3] + turn - 1) % turn);
                 ends.insert((record.slot, 5), (record.fields[1] + turn - 1) % turn);

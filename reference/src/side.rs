@@ -1,4 +1,4 @@
-//! The two sides of a connection, from document 01 with requests No. 3, 4, 6, 7 and 8 of document 02: packet numbers are kept in ordered maps and sets, one
+//! The two sides of a connection, from document 01 with requests No. 3, 4, 6 and 8 of document 02: packet numbers are kept in ordered maps and sets, one
 //! entry each.
 
 use std::collections::{BTreeMap, BTreeSet};
@@ -50,20 +50,7 @@ pub fn size_allowed(size: u16) -> bool {
     (48..=9216).contains(&size)
 }
 
-/// A SACK's MPR counts in so many packets.
-const MPR_UNIT: u32 = 128;
-
-/// The largest MPR that fits a SACK and a receiving room, or 1 if none does.
-pub fn largest_mpr(room: u32) -> u8 {
-    (room / MPR_UNIT).clamp(1, u8::MAX.into()) as u8
-}
-
-/// A SACK's MPR in packets.
-pub fn in_packets(mpr: u8) -> u32 {
-    MPR_UNIT * u32::from(mpr)
-}
-
-/// What an event that is done gives: the values of its line, and what only the library hands out: a NACK's reason.
+/// What an event that is done gives: the values of its line, and what only the library hands out: a SACK's MPR, a NACK's reason.
 #[derive(Clone, Debug, PartialEq)]
 pub struct Done {
     pub values: Vec<u64>,
@@ -88,11 +75,12 @@ fn row(from: u32, has: impl Fn(u32, bool) -> bool) -> Vec<u64> {
     [&[used as u64], &words[..used]].concat()
 }
 
-/// The reasons of a NACK.
+/// The reasons of a NACK, and the MPR of a SACK.
 const TRIM: u64 = 1;
 const TRIM_LASTHOP: u64 = 2;
 const NO_BITMAP: u64 = 3;
 const NO_PKT_BUFFER: u64 = 4;
+const MPR: u64 = 0;
 
 #[derive(Clone)]
 pub struct Receiver {
@@ -100,13 +88,11 @@ pub struct Receiver {
     pub expected: u32,
     ahead: BTreeSet<u32>,
     pub bytes: u32,
-    /// The MPR that its SACKs carry.
-    pub told: u8,
 }
 
 impl Receiver {
     pub fn new(room: u16, first: u32) -> Self {
-        Receiver { room: room as u32, expected: first, ahead: BTreeSet::new(), bytes: 0, told: 0 }
+        Receiver { room: room as u32, expected: first, ahead: BTreeSet::new(), bytes: 0 }
     }
 
     /// The record in numbers: its room, the expected packet number, the count, and the words of those accepted, all before E with them.
@@ -148,9 +134,8 @@ impl Receiver {
         self.bytes = self.bytes.wrapping_add(size.into());
         let (base, bitmap) = self.block(psn);
         let cack = on(self.expected, TURN - 1);
-        let mut values = vec![known.into(), cack.into(), base.into(), bitmap, (self.bytes / 256).into(), entropy.into(), rtx, u64::from(flags & 1)];
-        values.extend((self.told != 0).then_some(u64::from(self.told)));
-        done(values)
+        let values = vec![known.into(), cack.into(), base.into(), bitmap, (self.bytes / 256).into(), entropy.into(), rtx, u64::from(flags & 1)];
+        Ok(Done { values, unprinted: vec![MPR] })
     }
 
     fn block(&self, psn: u32) -> (u32, u64) {
@@ -177,8 +162,6 @@ struct Sent {
 pub struct Sender {
     pub room: u32,
     pub place: u32,
-    /// How far after the place a packet may go out.
-    pub mpr: u32,
     /// By how far a packet lies after the very first place: this never wraps.
     packets: BTreeMap<u64, Sent>,
     retired_to: u64,
@@ -187,8 +170,7 @@ pub struct Sender {
 
 impl Sender {
     pub fn new(room: u16, first: u32) -> Self {
-        let room = u32::from(room);
-        Sender { room, place: on(first, TURN - 1), mpr: room, packets: BTreeMap::new(), retired_to: 0, sent_to: 0 }
+        Sender { room: room as u32, place: on(first, TURN - 1), packets: BTreeMap::new(), retired_to: 0, sent_to: 0 }
     }
 
     pub fn outstanding(&self) -> u32 {
@@ -226,7 +208,7 @@ impl Sender {
         if !size_allowed(size) {
             return Err(6);
         }
-        if self.outstanding() >= self.mpr {
+        if self.outstanding() >= self.room {
             return Err(7);
         }
         self.sent_to += 1;
@@ -302,53 +284,7 @@ impl Sender {
 
     pub fn resend(&mut self) -> Outcome {
         let packet = self.packets.iter().find(|(_, sent)| sent.marked).map(|(&packet, _)| packet).ok_or(9)?;
-        if packet - self.retired_to > self.mpr.into() {
-            return Err(18);
-        }
         self.packets.get_mut(&packet).expect("just found").marked = false;
         done(vec![self.psn(packet).into()])
-    }
-}
-
-/// Both sides, and whether both peers have dynamic MPR (No. 7).
-#[derive(Clone)]
-pub struct Connection {
-    pub dynamic: bool,
-    pub sender: Sender,
-    pub receiver: Receiver,
-}
-
-impl Connection {
-    pub fn new(dynamic: bool, sender: Sender, receiver: Receiver) -> Self {
-        let told = if dynamic { largest_mpr(receiver.room) } else { 0 };
-        Connection { dynamic, sender, receiver: Receiver { told, ..receiver } }
-    }
-
-    /// The record in numbers: whether MPR is dynamic, the sender's MPR, the one that the receiver tells, both sides, and the sizes of the outstanding.
-    pub fn record(&self) -> Vec<u64> {
-        let mpr = vec![self.dynamic.into(), self.sender.mpr.into(), self.receiver.told.into()];
-        [mpr, self.sender.record(), self.receiver.record(), self.sender.sizes()].concat()
-    }
-
-    /// A SACK with its MPR. The sender takes it if cack is ahead of the place, and a 0 sets the flag.
-    pub fn sack(&mut self, cack: u32, base: u32, bitmap: u64, mpr: u8) -> Outcome {
-        let ahead = (1..=self.sender.outstanding()).contains(&distance(self.sender.place, cack));
-        let mut done = self.sender.sack(cack, base, bitmap)?;
-        if self.dynamic && mpr == 0 {
-            done.values.push(1);
-        }
-        if self.dynamic && mpr != 0 && ahead {
-            self.sender.mpr = in_packets(mpr).min(self.sender.room);
-        }
-        Ok(done)
-    }
-
-    /// The receiver's host sets what its SACKs tell.
-    pub fn set_mpr(&mut self, mpr: u8) -> Outcome {
-        if !self.dynamic || mpr == 0 || mpr > largest_mpr(self.receiver.room) {
-            return Err(23);
-        }
-        self.receiver.told = mpr;
-        done(vec![])
     }
 }

@@ -10,36 +10,26 @@ const PART: &str = "## When the card says no";
 const FLAGS: [&str; 8] = ["ecn", "rtx", "trimmed", "trimmed_last_hop", "no_buffer", "bit_5", "bit_6", "bit_7"];
 const REASONS: [&str; 6] = ["trim", "trim_last_hop", "no_bitmap", "no_buffer", "psne", "gerr"];
 
-/// The names of a line's values, and of one more that it may end with.
-type Values = (&'static [&'static str], Option<&'static str>);
+/// A done line's word, and the names of its values.
+type Named = (&'static str, &'static [&'static str]);
 
-/// A done line's word, and its values.
-type Named = (&'static str, Values);
-
-const NONE: Values = (&[], None);
-const PSN: Values = (&["psn"], None);
-const NEWLY: Values = (&["newly"], None);
-const SACK: Values = (&["cack", "base", "bitmap", "count/256", "entropy", "rtx", "mark"], Some("mpr"));
-const NACK: Values = (&["psn", "entropy", "rtx"], None);
-const RETIRED: Values = (&["newly", "place", "held", "false_alarms"], Some("mpr_missing"));
+const SACK: &[&str] = &["cack", "base", "bitmap", "count/256", "entropy", "rtx", "mark"];
+const NACK: &[&str] = &["psn", "entropy", "rtx"];
 
 /// By the arrival answer.
 const ARRIVALS: [Named; 6] =
     [("fresh", SACK), ("known", SACK), ("beyond", NACK), ("no_buffer", NACK), ("trimmed", NACK), ("trimmed_last_hop", NACK)];
 
 /// By the kind, from 1 on. An arrival's line has the arrival answer before its values, which go by it.
-const ANSWERS: [Named; 11] = [
-    ("started", NONE),
-    ("closed", NONE),
-    ("sent", PSN),
-    ("arrived", NONE),
-    ("retired", RETIRED),
-    ("marked", NEWLY),
-    ("marked", NEWLY),
-    ("resent", PSN),
-    ("started", NONE),
-    ("set", NONE),
-    ("retired", RETIRED),
+const ANSWERS: [Named; 8] = [
+    ("started", &[]),
+    ("closed", &[]),
+    ("sent", &["psn"]),
+    ("arrived", &[]),
+    ("retired", &["newly", "place", "held", "false_alarms"]),
+    ("marked", &["newly"]),
+    ("marked", &["newly"]),
+    ("resent", &["psn"]),
 ];
 
 pub struct Told {
@@ -99,14 +89,13 @@ fn refusal(number: u64) -> String {
 
 /// What a done line says, or nothing where it has not the values of its kind.
 fn done(kind: usize, values: &[u64]) -> Option<String> {
-    let ((word, (always, more)), values) = match kind {
+    let ((word, names), values) = match kind {
         4 => (ARRIVALS.get(usize::try_from(*values.first()?).ok()?)?, &values[1..]),
         _ => (&ANSWERS[kind - 1], values),
     };
-    let names: Vec<&str> = always.iter().chain(more).copied().collect();
     let base = names.iter().position(|name| *name == "base").and_then(|i| values.get(i)).copied();
     let named: String = names.iter().zip(values).map(|(name, number)| format!(" {name}={}", spoken(name, *number, base))).collect();
-    (always.len()..=names.len()).contains(&values.len()).then(|| format!("{word}{named}"))
+    (names.len() == values.len()).then(|| format!("{word}{named}"))
 }
 
 /// The answer that a line gives to a record.

@@ -15,8 +15,7 @@ use Rattle.rules.specs.declared.Answer.{Answer}
 use Rattle.rules.specs.declared.Answer.TheVariants as answer
 use Rattle.rules.specs.declared.Start.{Start}
 use Rattle.rules.specs.declared.Event.TheVariants as event
-use Rattle.rules.proofs.Dynamic.{answered_within}
-use Rattle.bridge.proofs.Halves.{goes_record}
+use Rattle.bridge.proofs.Halves.{answered_within, goes_record}
 
 -- what is started passed every test
 begun : {S : Type 0} (l : Refusals) (o : Outcome Answer S) → answered (unless l o) ≡ answer.Started → Past l (length l) × (answered o ≡ answer.Started)

@@ -9,7 +9,7 @@ use Rattle.sender.specs.Record as sender
 use Rattle.receiver.specs.Record as receiver
 use Rattle.delivery.specs.Rules.{Gives, given, rules}
 use Rattle.delivery.proofs.Begins.{sender_begins, receiver_begins}
-use Rattle.delivery.proofs.Following.{exactly, Follows, keeps}
+use Rattle.delivery.proofs.Following.{Follows, keeps}
 use Rattle.bridge.specs.Engines.{engines, EnginesKeep}
 
 -- the rule's own answer and record
@@ -28,7 +28,7 @@ sender_follows = record {
   Kept = λ x. Unit {0};
   places = λ x. refl;
   begins = λ o x good low b. (b.1.record_is ∙ ap (left (sender.meaning sender.empty)) (sender_begins o good low), tt);
-  steps = λ x e a y k m. (exactly rules.sender (sender.meaning x) e a (sender.meaning y) (m.0, meets_gives x _ a y m.1), tt);
+  steps = λ x e a y k m. (meets_gives x _ a y m, tt);
   beside = λ x y k b. absurd b;
 }
 
@@ -39,7 +39,7 @@ receiver_follows = record {
   Kept = λ r. Unit {0};
   places = λ r. refl;
   begins = λ o r good low b. (b.1.record_is ∙ ap (left (receiver.meaning receiver.empty)) (receiver_begins o good low), tt);
-  steps = λ r e a q k m. (exactly rules.receiver (receiver.meaning r) e a (receiver.meaning q) (m.0, meets_gives r _ a q m.1), tt);
+  steps = λ r e a q k m. (meets_gives r _ a q m, tt);
   beside = λ r q k b. absurd b;
 }
 

@@ -1,5 +1,5 @@
 -- The sides inside tables follow the rules: an event of a side goes by its rule, and nothing else touches it. An event in another slot
--- leaves this one's very record, and what happens beside a side in its own slot leaves it. Assumes nothing.
+-- leaves this one's very record, and one of the other side leaves this side. Assumes nothing.
 use mathlib.Core.Path.{◌≡◌, refl, sym, ap, ◌∙◌}
 use mathlib.Core.Bool.{false}
 use mathlib.Core.List.{List}
@@ -8,13 +8,13 @@ use Prim.Native.Nat.{ℕ}
 use native.Mathlib.Decide.{ℕ_discrete}
 use lib.ListN.{get_or}
 use Rattle.promise.specs.Outcome.{left}
-use Rattle.rules.specs.Connection.{fresh, step}
+use Rattle.rules.specs.Paper.{answered}
+use Rattle.rules.specs.Connection.{fresh}
 use Rattle.rules.specs.Connection as rule
 use Rattle.rules.specs.Table.{at, outside, on}
 use Rattle.rules.specs.declared.Answer.{Answer}
 use Rattle.rules.specs.declared.Opening.{Opening}
 use Rattle.rules.specs.declared.Start.{Start}
-use Rattle.rules.specs.declared.Use.{Use}
 use Rattle.rules.specs.declared.Event.{Event}
 use Rattle.rules.specs.declared.Event.TheVariants as event
 use Rattle.rules.proofs.Settled.{answer_is_rule}
@@ -27,11 +27,12 @@ use Rattle.sender.specs.Record as sender
 use Rattle.receiver.specs.Record as receiver
 use Rattle.table.specs.Slots.{On, meaning}
 use Rattle.table.proofs.Slots.{at_means}
-use Rattle.delivery.specs.Rules.{rules}
+use Rattle.delivery.specs.Rules.{Gives, rules}
 use Rattle.delivery.proofs.Following.{Follows, keeps}
-use Rattle.bridge.specs.Tables.{sending_in, receiving_in, sending_opens, receiving_opens, Started, BesideSender, BesideReceiver, OfUse, Else}
+use Rattle.bridge.specs.Tables.{sending_in, receiving_in, sending_opens, receiving_opens, Started, Sending, sends, Receiving, receives, Else}
 use Rattle.bridge.specs.Tables.{tables, TablesKeep}
-use Rattle.bridge.proofs.Halves.{Half, sending_half, receiving_half, ByLaw, goes_by, half_answer, half_next, sender_stays, receiver_stays, slot_stays, still_here}
+use Rattle.bridge.proofs.Engines.{gives}
+use Rattle.bridge.proofs.Halves.{Half, sending_half, receiving_half, half_answer, half_next, half_same, still_here}
 use Rattle.bridge.proofs.Begun.{start_here, start_leaves}
 
 -- what every table that is reached has: the slot is one of its own
@@ -45,12 +46,15 @@ module _ {P Q E : Type 0} (H : Half P Q E) (i : ℕ) (means : Connection → P)
   in_it t = means (get_or t i empty)
 
   steps : (t : List Connection) (e : E) (a : Answer) (u : List Connection) → Here i t → On t i (event.Use (H.event_of e)) a u
-      → ByLaw H (in_it t) e a (in_it u) × Here i u
-  steps t e a u here m = (
-    goes_by H (at (meaning t) i) (in_it t) e a (in_it u) (at_it t) (answer_is_rule m.meets ∙ half_answer H (meaning t) i here e)
-        (sym (at_it u) ∙ ap (λ (l : List rule.Connection). H.mine (at l i)) m.meets.record_is ∙ half_next H (meaning t) i here e),
-    ap (λ (l : List rule.Connection). outside l i) m.meets.record_is ∙ still_here (meaning t) i (event.Use (H.event_of e)) i here,
-  )
+      → Gives (in_it t) (H.law (in_it t) e) a (in_it u) × Here i u
+  steps t e a u here m =
+      let said : a ≡ answered (H.law (H.mine (at (meaning t) i)) e) = answer_is_rule m.meets ∙ half_answer H (meaning t) i here e in
+      let next : in_it u ≡ left (H.mine (at (meaning t) i)) (H.law (H.mine (at (meaning t) i)) e) =
+      sym (at_it u) ∙ ap (λ (l : List rule.Connection). H.mine (at l i)) m.meets.record_is ∙ half_next H (meaning t) i here e in (
+        gives (in_it t) (H.law (in_it t) e) a (in_it u) (said ∙ ap (λ x. answered (H.law x e)) (at_it t))
+            (next ∙ ap (λ x. left x (H.law x e)) (at_it t)),
+        ap (λ (l : List rule.Connection). outside l i) m.meets.record_is ∙ still_here (meaning t) i (event.Use (H.event_of e)) i here,
+      )
 
   -- a start with this half
   module _ (half_fresh : Opening → P) (opens : Start → Opening) (is : (s : Start) → H.mine (fresh s) ≡ half_fresh (opens s)) where
@@ -64,28 +68,24 @@ module _ {P Q E : Type 0} (H : Half P Q E) (i : ℕ) (means : Connection → P)
           ap (λ (l : List rule.Connection). outside l i) m.meets.record_is ∙ still_here (meaning b.before) i (event.Start b.start) i here,
         )
 
-  -- anything else: in another slot, or beside this half, which leaves it
-  module _ (Other : Use → Type 0) (stays : (c : rule.Connection) (u : Use) → Other u → H.mine (left c (step c u)) ≡ H.mine c)
+  -- anything else: in another slot, or on the other half, whose events leave this one
+  module _ (Other : Event → Type 0)
+      (stays : (t : List rule.Connection) → outside t i ≡ false → (e : Event) → Other e → H.mine (at (left t (on t i e)) i) ≡ H.mine (at t i))
     where
       beside : (t u : List Connection) → Here i t → Else i Other t u → (in_it u ≡ in_it t) × Here i u
-      unfolding OfUse
       beside t u here b =
           let m = b.on in (
             go (ℕ_discrete i b.where_it_is),
             ap (λ (l : List rule.Connection). outside l i) m.meets.record_is ∙ still_here (meaning t) b.where_it_is b.what i here,
           )
         where
-          in_slot_stays : (e : Event) → OfUse Other e → H.mine (at (left (meaning t) (on (meaning t) i e)) i) ≡ H.mine (at (meaning t) i)
-          in_slot_stays (event.Start s) o = absurd o
-          in_slot_stays (event.Use u) o = slot_stays H.mine (meaning t) i here u (stays (at (meaning t) i) u o)
-
           go : Dec (i ≡ b.where_it_is) → in_it u ≡ in_it t
           go (no n) = ap means (b.on.elsewhere i n)
           go (yes p) =
-              let other : OfUse Other b.what = ⊎_elim (λ n. absurd (n (sym p))) (λ o. o) b.elsewhere in
+              let other : Other b.what = ⊎_elim (λ n. absurd (n (sym p))) (λ o. o) b.elsewhere in
               sym (at_it u) ∙ ap (λ (l : List rule.Connection). H.mine (at l i)) b.on.meets.record_is
               ∙ ap (λ (k : ℕ). H.mine (at (left (meaning t) (on (meaning t) k b.what)) i)) (sym p)
-              ∙ in_slot_stays b.what other ∙ at_it t
+              ∙ stays (meaning t) here b.what other ∙ at_it t
 
 -- ---- the two halves
 sending_at : (i : ℕ) (t : List Connection) → (at (meaning t) i).sender ≡ sending_in i t
@@ -95,6 +95,16 @@ sending_at i t = ap (λ (c : rule.Connection). c.sender) (at_means t i)
 receiving_at : (i : ℕ) (t : List Connection) → (at (meaning t) i).receiver ≡ receiving_in i t
 unfolding meaning connection.meaning
 receiving_at i t = ap (λ (c : rule.Connection). c.receiver) (at_means t i)
+
+sender_stays : (i : ℕ) (t : List rule.Connection) → outside t i ≡ false → (e : Event) → Receiving e
+    → (at (left t (on t i e)) i).sender ≡ (at t i).sender
+unfolding receiving_half
+sender_stays i t here _ (receives e) = half_same receiving_half t i here e
+
+receiver_stays : (i : ℕ) (t : List rule.Connection) → outside t i ≡ false → (e : Event) → Sending e
+    → (at (left t (on t i e)) i).receiver ≡ (at t i).receiver
+unfolding sending_half
+receiver_stays i t here _ (sends e) = half_same sending_half t i here e
 
 abbrev sending_means : Connection → rule_sender.Sender
 sending_means c = sender.meaning c.sender
@@ -115,10 +125,8 @@ sender_follows i j = record {
   Kept = Here i;
   places = λ t. refl;
   begins = λ o t good low b. begins sending_half i sending_means (sending_at i) fresh_sender sending_opens (λ s. refl) o t b;
-  steps = λ t e a u k m.
-      let l = steps sending_half i sending_means (sending_at i) t e a u k m in
-      (record { said = l.0.said; alike = l.0.alike; steps = (l.0.number, l.0.by) }, l.1);
-  beside = λ t u k b. beside sending_half i sending_means (sending_at i) BesideSender sender_stays t u k b;
+  steps = λ t e a u k m. steps sending_half i sending_means (sending_at i) t e a u k m;
+  beside = λ t u k b. beside sending_half i sending_means (sending_at i) Receiving (sender_stays i) t u k b;
 }
 
 unfoldable receiver_follows : (i j : ℕ) → Follows (tables i j).receiver rules.receiver
@@ -128,10 +136,8 @@ receiver_follows i j = record {
   Kept = Here j;
   places = λ t. refl;
   begins = λ o t good low b. begins receiving_half j receiving_means (receiving_at j) fresh_receiver receiving_opens (λ s. refl) o t b;
-  steps = λ t e a u k m.
-      let l = steps receiving_half j receiving_means (receiving_at j) t e a u k m in
-      (record { said = l.0.said; alike = l.0.alike; steps = (l.0.number, l.0.by) }, l.1);
-  beside = λ t u k b. beside receiving_half j receiving_means (receiving_at j) BesideReceiver receiver_stays t u k b;
+  steps = λ t e a u k m. steps receiving_half j receiving_means (receiving_at j) t e a u k m;
+  beside = λ t u k b. beside receiving_half j receiving_means (receiving_at j) Sending (receiver_stays j) t u k b;
 }
 
 pub tables_keep : TablesKeep

@@ -1,11 +1,13 @@
 -- The same for two connections by value, as `Connection::start` and `Connection::step` hand them out: the sending side of the one and the
--- receiving side of the other, while any event of the side beside it may happen on either, and the host may set either's MPR.
+-- receiving side of the other, while any event of the side beside it may happen on either.
 use Rattle.std.specs.Prelude.{◌≡◌}
 use Rattle.rules.specs.Connection as rule
 use Rattle.rules.specs.Receiver as rule_receiver
+use Rattle.rules.specs.Receiving.{Receiving}
 use Rattle.rules.specs.Sender as rule_sender
 use Rattle.rules.specs.declared.Opening.{Opening}
 use Rattle.rules.specs.declared.Start.{Start}
+use Rattle.rules.specs.declared.Sending.{Sending}
 use Rattle.rules.specs.declared.Answer.{Answer}
 use Rattle.rules.specs.declared.Answer.TheVariants as answer
 use Rattle.rules.specs.declared.Use.{Use}
@@ -17,7 +19,7 @@ use Rattle.sender.specs.Record as sender
 use Rattle.receiver.specs.Record as receiver
 use Rattle.delivery.specs.Network.{Sides}
 use Rattle.delivery.specs.Promise.{Keep}
-use Rattle.bridge.specs.Tables.{sending_opens, receiving_opens, BesideSender, BesideReceiver}
+use Rattle.bridge.specs.Tables.{sending_opens, receiving_opens}
 
 -- what the two sides' records mean
 abbrev pub sending_of : Connection → rule_sender.Sender
@@ -47,14 +49,14 @@ connections = record {
     place = λ c. (sending_of c).place;
     Begins = λ o c. Begun sending_opens o c;
     Steps = λ c e a d. On c (use-of.Sends e) a d;
-    Beside = λ c d. (e : Use) × BesideSender e × ((a : Answer) × On c e a d);
+    Beside = λ c d. (e : Receiving) × (a : Answer) × On c (use-of.Receives e) a d;
   };
   receiver = record {
     State = Connection;
     place = λ c. (receiving_of c).expected;
     Begins = λ o c. Begun receiving_opens o c;
     Steps = λ c e a d. On c (use-of.Receives e) a d;
-    Beside = λ c d. (e : Use) × BesideReceiver e × ((a : Answer) × On c e a d);
+    Beside = λ c d. (e : Sending) × (a : Answer) × On c (use-of.Sends e) a d;
   };
 }
 

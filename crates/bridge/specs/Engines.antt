@@ -1,6 +1,5 @@
 -- The engines by value as demand 3's two sides: a start, and each event, may bring any answer and leave any record that the engine's own
--- promise allows, with any limit given to a send or resend and any MPR to an arrival.
-use Rattle.std.specs.Prelude.{ℕ}
+-- promise allows.
 use Rattle.promise.specs.Promise.{Meets}
 use Rattle.rules.specs.Paper.{paper}
 use Rattle.rules.specs.Receiver as rule_receiver
@@ -21,14 +20,14 @@ engines = record {
     State = Sender;
     place = λ x. (sender.meaning x).place;
     Begins = λ o x. (a : Answer) × Meets paper sender.Sound sender.meaning sender.empty (rule_sender.start o) a x;
-    Steps = λ x e a y. (limit : ℕ) × Meets paper sender.Sound sender.meaning x (sending.step limit (sender.meaning x) e) a y;
+    Steps = λ x e a y. Meets paper sender.Sound sender.meaning x (sending.step (sender.meaning x) e) a y;
     Beside = λ x y. ⊥;
   };
   receiver = record {
     State = Receiver;
     place = λ r. (receiver.meaning r).expected;
     Begins = λ o r. (a : Answer) × Meets paper receiver.Sound receiver.meaning receiver.empty (rule_receiver.start o) a r;
-    Steps = λ r e a q. (mpr : ℕ) × Meets paper receiver.Sound receiver.meaning r (receiving.step mpr (receiver.meaning r) e) a q;
+    Steps = λ r e a q. Meets paper receiver.Sound receiver.meaning r (receiving.step (receiver.meaning r) e) a q;
     Beside = λ r q. ⊥;
   };
 }

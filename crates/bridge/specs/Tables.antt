@@ -11,7 +11,6 @@ use Rattle.rules.specs.declared.Answer.{Answer}
 use Rattle.rules.specs.declared.Answer.TheVariants as answer
 use Rattle.rules.specs.declared.Event.{Event}
 use Rattle.rules.specs.declared.Event.TheVariants as event
-use Rattle.rules.specs.declared.Use.{Use}
 use Rattle.rules.specs.declared.Use.TheVariants as use-of
 use Rattle.connection.specs.declared.Connection.{Connection}
 use Rattle.connection.specs.Record.{empty}
@@ -42,26 +41,19 @@ sending_opens s = s.sending
 abbrev pub receiving_opens : Start → Opening
 receiving_opens s = s.receiving
 
--- what may happen beside the sending side of a connection, and beside its receiving side: an event of the other, or the host sets the MPR
-pub data BesideSender : Use → Type 0 where
-  receives : (e : receiving.Receiving) → BesideSender (use-of.Receives e)
-  sets : (v : ℕ) → BesideSender (use-of.SetMpr v)
+-- events of the one side or of the other
+pub data Sending : Event → Type 0 where
+  sends : (e : sending.Sending) → Sending (event.Use (use-of.Sends e))
 
-pub data BesideReceiver : Use → Type 0 where
-  sends : (e : sending.Sending) → BesideReceiver (use-of.Sends e)
-  sets : (v : ℕ) → BesideReceiver (use-of.SetMpr v)
+pub data Receiving : Event → Type 0 where
+  receives : (e : receiving.Receiving) → Receiving (event.Use (use-of.Receives e))
 
--- the same of an event on a slot
-unfoldable pub OfUse : (Use → Type 0) → Event → Type 0
-OfUse P (event.Start s) = ⊥
-OfUse P (event.Use u) = P u
-
--- anything else in the table: in another slot, or beside this side in its own
-pub record Else (slot : ℕ) (Other : Use → Type 0) (t u : List Connection) : Type 0 where
+-- anything else in the table: in another slot, or on the other side of this one
+pub record Else (slot : ℕ) (Other : Event → Type 0) (t u : List Connection) : Type 0 where
   pub where_it_is : ℕ
   pub what : Event
   pub said : Answer
-  pub elsewhere : (where_it_is ≢ slot) ⊎ OfUse Other what
+  pub elsewhere : (where_it_is ≢ slot) ⊎ Other what
   pub on : On t where_it_is what said u
 
 abbrev pub tables : ℕ → ℕ → Sides
@@ -71,14 +63,14 @@ tables i j = record {
     place = λ t. (sending_in i t).place;
     Begins = λ o t. Started i sending_opens o t;
     Steps = λ t e a u. On t i (event.Use (use-of.Sends e)) a u;
-    Beside = λ t u. Else i BesideSender t u;
+    Beside = λ t u. Else i Receiving t u;
   };
   receiver = record {
     State = List Connection;
     place = λ t. (receiving_in j t).expected;
     Begins = λ o t. Started j receiving_opens o t;
     Steps = λ t e a u. On t j (event.Use (use-of.Receives e)) a u;
-    Beside = λ t u. Else j BesideReceiver t u;
+    Beside = λ t u. Else j Sending t u;
   };
 }
 

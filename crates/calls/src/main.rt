@@ -12,8 +12,8 @@ use psn::Psn;
 use receiver::Receiver;
 use receiving::Head;
 use rules::{
-    Answer, Arrival, Block, Carried, Event, KINDS, LARGEST_ROOM, Opening, Options, Read, Sending,
-    Start, Use, WORDS, Written,
+    Answer, Arrival, Block, Event, KINDS, LARGEST_ROOM, Opening, Options, Read, Sending, Start,
+    Use, WORDS, Written,
 };
 use sender::SIZES;
 
@@ -32,7 +32,7 @@ const BYTES: usize = 33_000;
 const SHOWN: usize = 40;
 
 // Room for the longest line: of a record, whose numbers have at most 20 digits, its sizes 5, with the space or the end of the line behind each.
-const LINE: usize = 21 * (11 + 3 * (1 + WORDS)) + 6 * SIZES;
+const LINE: usize = 21 * (8 + 3 * (1 + WORDS)) + 6 * SIZES;
 
 // The largest numbers of 8, 16, 32 and 64 bits.
 const MOST_8: u64 = 0xFF;
@@ -126,9 +126,6 @@ fn most(kind: u64) -> [u64; FIELDS] {
         5 => [MOST_32, MOST_32, MOST_64, MOST_64],
         6 => [MOST_32, MOST_8, MOST_64, MOST_64],
         7 => [MOST_32, MOST_64, MOST_64, MOST_64],
-        9 => [MOST_16, MOST_32, MOST_16, MOST_32],
-        10 => [MOST_8, MOST_64, MOST_64, MOST_64],
-        11 => [MOST_32, MOST_32, MOST_64, MOST_8],
         _ => [MOST_64, MOST_64, MOST_64, MOST_64],
     }
 }
@@ -171,31 +168,17 @@ fn opening(room: u64, first: u64) -> Opening {
     }
 }
 
-fn start(call: [u64; NUMBERS], dynamic: bool) -> Event {
-    Event::Start(Start {
-        sending: opening(call[4], call[5]),
-        receiving: opening(call[6], call[7]),
-        options: Options { dynamic },
-    })
-}
-
-fn sack(cack: u64, base: u64, bitmap: u64, mpr: Carried) -> Sending {
-    Sending::Sack {
-        cack: Psn(low_32(cack)),
-        block: Block {
-            base: Psn(low_32(base)),
-            bitmap,
-        },
-        mpr,
-    }
-}
-
 // The event of the sending side of a kind with these fields.
-fn sending(kind: u64, f: u64, g: u64, h: u64, i: u64) -> Sending {
+fn sending(kind: u64, f: u64, g: u64, h: u64) -> Sending {
     match kind {
         3 => Sending::Send { size: low_16(f) },
-        5 => sack(f, g, h, Carried::Unwritten),
-        11 => sack(f, g, h, Carried::Value(low_8(i))),
+        5 => Sending::Sack {
+            cack: Psn(low_32(f)),
+            block: Block {
+                base: Psn(low_32(g)),
+                bitmap: h,
+            },
+        },
         6 => Sending::Nack {
             psn: Psn(low_32(f)),
             reason: low_8(g),
@@ -211,12 +194,14 @@ fn sending(kind: u64, f: u64, g: u64, h: u64, i: u64) -> Sending {
 fn event_of(call: [u64; NUMBERS]) -> Event {
     let kind = call[3];
     match kind {
-        1 => start(call, false),
-        9 => start(call, true),
-        10 => Event::Use(Use::SetMpr(low_8(call[4]))),
+        1 => Event::Start(Start {
+            sending: opening(call[4], call[5]),
+            receiving: opening(call[6], call[7]),
+            options: Options {},
+        }),
         2 => Event::Use(Use::Close),
         4 => Event::Use(Use::Receives(arrival(call[4], call[5], call[6], call[7]))),
-        _ => Event::Use(Use::Sends(sending(kind, call[4], call[5], call[6], call[7]))),
+        _ => Event::Use(Use::Sends(sending(kind, call[4], call[5], call[6]))),
     }
 }
 
@@ -240,12 +225,14 @@ fn kind_of(answer: Answer) -> u64 {
         Answer::Marked(_) => 6,
         Answer::Expired(_) => 7,
         Answer::Resent(_) => 8,
-        Answer::MprSet => 10,
     }
 }
 
-// Puts what only the library hands out: a NACK's reason.
+// Puts what only the library hands out: a SACK's MPR, a NACK's reason.
 fn push_unprinted(out: &mut [u8], at: usize, answer: Answer) -> usize {
+    if let Answer::Acked(_, sack) = answer {
+        return lines::push_next(out, at, sack.mpr as u64);
+    }
     if let Answer::Nacked(_, nack) = answer {
         return lines::push_next(out, at, nack.reason as u64);
     }
@@ -373,15 +360,7 @@ fn push_receiver(out: &mut [u8], at: usize, r: Receiver) -> usize {
     push_words(out, p, words)
 }
 
-// A flag as a number.
-fn digit(b: bool) -> u64 {
-    if b {
-        return 1;
-    }
-    0
-}
-
-// Puts a record: the MPR, both sides, and the sizes of the packet numbers outstanding.
+// Puts a record: both sides, and the sizes of the packet numbers outstanding.
 fn push_record(out: &mut [u8], at: usize, c: Connection) -> usize {
     let s = c.sender;
     let receiver = c.receiver;
@@ -390,17 +369,8 @@ fn push_record(out: &mut [u8], at: usize, c: Connection) -> usize {
     let marked = s.marked;
     let sizes = s.sizes;
     let n = s.outstanding;
-    let m = c.mpr;
-    let all = [
-        digit(m.dynamic),
-        m.limit as u64,
-        m.told as u64,
-        s.room as u64,
-        place.0 as u64,
-        n as u64,
-        s.held as u64,
-    ];
-    let p = push_all(out, at, &all, 7);
+    let all = [s.room as u64, place.0 as u64, n as u64, s.held as u64];
+    let p = push_all(out, at, &all, 4);
     let q = push_words(out, p, retired);
     let r = push_words(out, q, marked);
     let t = push_receiver(out, r, receiver);
@@ -525,11 +495,11 @@ fn write_call(bytes: &mut [u8], call: [u64; NUMBERS], out: &mut [u8], at: usize)
     push_written(out, at, &mut bytes[..n], low_8(slot), event_of(call))
 }
 
-// An arrival at a receiver by value, whose SACK carries this MPR.
-fn push_arrived(out: &mut [u8], at: usize, r: Receiver, mpr: u8, a: Arrival) -> usize
+// An arrival at a receiver by value.
+fn push_arrived(out: &mut [u8], at: usize, r: Receiver, a: Arrival) -> usize
     requires { Sound r }
 {
-    let done = r.arrive(mpr, a);
+    let done = r.arrive(a);
     let answer = done.answer;
     let record = done.record;
     let p = push_answer(out, at, answer);
@@ -537,7 +507,7 @@ fn push_arrived(out: &mut [u8], at: usize, r: Receiver, mpr: u8, a: Arrival) -> 
 }
 
 // The same at a receiver's head over lent words.
-fn push_lent(out: &mut [u8], at: usize, r: Receiver, mpr: u8, a: Arrival) -> usize
+fn push_lent(out: &mut [u8], at: usize, r: Receiver, a: Arrival) -> usize
     requires { SoundLent (lent_of r) }
 {
     let expected = r.expected;
@@ -547,7 +517,7 @@ fn push_lent(out: &mut [u8], at: usize, r: Receiver, mpr: u8, a: Arrival) -> usi
         expected,
         count: r.count,
     };
-    let done = head.arrive(&mut words, mpr, a);
+    let done = head.arrive(&mut words, a);
     let answer = done.answer;
     let left = done.record;
     let next = left.expected;
@@ -569,7 +539,6 @@ fn push_counted(
     out: &mut [u8],
     at: usize,
     first: Psn,
-    mpr: u8,
     a: Arrival,
     count: u32,
     lent: bool,
@@ -590,13 +559,12 @@ fn push_counted(
         count,
     };
     if lent {
-        return push_lent(out, at, counted, mpr, a);
+        return push_lent(out, at, counted, a);
     }
-    push_arrived(out, at, counted, mpr, a)
+    push_arrived(out, at, counted, a)
 }
 
-// Ops 8 and 9: a receiver started at packet number a, its count set to b, and an arrival with size c, flags, entropy and packet number, whose SACK
-// carries the MPR in the last field.
+// Ops 8 and 9: a receiver started at packet number a, its count set to b, and an arrival with size c, flags, entropy and packet number.
 fn arrive_call(call: [u64; NUMBERS], out: &mut [u8], at: usize, lent: bool) -> usize {
     if !has_event([1, 0, 0, 4, call[6], call[3], call[4], call[5]]) {
         return unknown(out, at);
@@ -607,12 +575,9 @@ fn arrive_call(call: [u64; NUMBERS], out: &mut [u8], at: usize, lent: bool) -> u
     if MOST_32 < call[2] {
         return unknown(out, at);
     }
-    if MOST_8 < call[7] {
-        return unknown(out, at);
-    }
     let first = Psn(low_32(call[1]));
     let a = arrival(call[6], call[3], call[4], call[5]);
-    push_counted(out, at, first, low_8(call[7]), a, low_32(call[2]), lent)
+    push_counted(out, at, first, a, low_32(call[2]), lent)
 }
 
 // A call that leaves the table as it is.

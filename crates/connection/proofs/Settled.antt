@@ -1,8 +1,7 @@
 -- Each public method's promise settles its outcome: any two results that it allows are equal in answer and meaning. Assumes nothing.
 use mathlib.Core.Path.{◌≡◌, sym, ◌∙◌}
-use Prim.Native.Nat.{ℕ}
 use Rattle.promise.specs.Outcome.{Outcome}
-use Rattle.rules.specs.Connection.{start, close, set_mpr, step}
+use Rattle.rules.specs.Connection.{start, close, step}
 use Rattle.rules.specs.Connection as rule
 use Rattle.rules.specs.declared.Answer.{Answer}
 use Rattle.rules.specs.declared.Start.{Start}
@@ -26,9 +25,6 @@ start_settled o = same empty (start o)
 
 pub close_settled : (c : Connection) (r s : Stepped) → Steps c (close (meaning c)) r → Steps c (close (meaning c)) s → Same r s
 close_settled c = same c (close (meaning c))
-
-pub set_mpr_settled : (c : Connection) (v : ℕ) (r s : Stepped) → Steps c (set_mpr (meaning c) v) r → Steps c (set_mpr (meaning c) v) s → Same r s
-set_mpr_settled c v = same c (set_mpr (meaning c) v)
 
 pub step_settled : (c : Connection) (u : Use) (r s : Stepped) → Steps c (step (meaning c) u) r → Steps c (step (meaning c) u) s → Same r s
 step_settled c u = same c (step (meaning c) u)

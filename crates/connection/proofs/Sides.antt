@@ -3,6 +3,8 @@ use mathlib.Core.Path.{◌≡◌, refl, sym, ap, ◌∙◌, subst}
 use mathlib.Core.Bool.{true, false≢true}
 use mathlib.Core.Logic.{◌⊎◌, inl, inr}
 use Prim.Native.Nat.{ℕ}
+use lib.Dec.{eqb}
+use borrow.Author.Tests.{eq-eqb}
 use Rattle.promise.specs.Outcome.{Outcome, left, within}
 use Rattle.promise.specs.Promise.{Meets}
 use Rattle.promise.proofs.Meeting.{part}
@@ -12,14 +14,17 @@ use Rattle.rules.specs.Receiver as rule_receiver
 use Rattle.rules.specs.Receiving.{Receiving}
 use Rattle.rules.specs.Receiving as rule-receiving
 use Rattle.rules.specs.Sender as rule_sender
-use Rattle.rules.specs.Connection.{with_receiver}
+use Rattle.rules.specs.Sending as rule-sending
+use Rattle.rules.specs.Connection.{with_sender, with_receiver}
 use Rattle.rules.specs.Connection as rule
 use Rattle.rules.specs.declared.Answer.{Answer}
-use Rattle.rules.proofs.Rooms.{room_receiving, unused_receiving}
+use Rattle.rules.specs.declared.Sending.{Sending}
+use Rattle.rules.proofs.Rooms.{room_sending, room_receiving, unused_sending, unused_receiving}
 use Rattle.lists.specs.Index.{table}
 use Rattle.lists.proofs.Index.{length_table}
 use Rattle.sending.specs.Lent as rows
 use Rattle.sender.specs.declared.Sender.{Sender}
+use Rattle.sender.specs.declared.Stepped as sending
 use Rattle.sender.specs.Record as sender
 use Rattle.receiving.specs.Lent as lent
 use Rattle.receiver.specs.declared.Receiver.{Receiver}
@@ -27,7 +32,7 @@ use Rattle.receiver.specs.declared.Stepped as receiving
 use Rattle.receiver.specs.Record as receiver
 use Rattle.connection.specs.declared.Connection.{Connection}
 use Rattle.connection.specs.declared.Stepped.{Stepped}
-use Rattle.connection.specs.Record.{meaning, empty, Started, Sound, Steps, received_by}
+use Rattle.connection.specs.Record.{meaning, empty, Sound, Steps, sent_by, received_by}
 
 -- ---- the record of no connection means the rules' own
 pub empty_means : meaning empty ≡ rule.empty
@@ -70,34 +75,58 @@ unfolding lent.meaning table
 receiver_in_use x y o a = with_room (λ r. lent.Started (receiver.lent_of r)) receiver.empty receiver.meaning rule_receiver.room x y o a refl
 
 module _ (c : Connection) (sound : Sound c) where
-  -- ---- an event on the receiving side: it keeps the room, and an empty side refuses it
+  -- ---- an event on the sending side: it keeps the room, and an empty side refuses it
+  module _ (e : Sending) where
+    abbrev sends : Outcome Answer rule_sender.Sender
+    sends = rule-sending.step (sender.meaning c.sender) e
+
+    on_sender : (a : Answer) (y : Sender) → Meets paper sender.Sound sender.meaning c.sender sends a y
+        → Meets paper Sound meaning c (within (with_sender (meaning c)) sends) a (record { sender = y; receiver = c.receiver })
+    unfolding meaning rows.meaning
+    on_sender a y m =
+        part put (with_sender (meaning c)) c c.sender sends a y refl (λ x. refl) m (go sound)
+      where
+        put : Sender → Connection
+        put x = record { sender = x; receiver = c.receiver }
+
+        go : Sound c → Sound (put y)
+        go (inl n) =
+            let free : c.sender.room ≡ 0 = ap (λ (d : Connection). d.sender.room) n in
+            inl (ap put (m.untouched 2 (unused_sending (sender.meaning c.sender) e (eq-eqb c.sender.room 0 free))) ∙ n)
+        go (inr s) =
+            let kept = (room_sending (sender.meaning c.sender) e).holds in
+            inr (record { sends = sender_in_use c.sender y sends a (ap room_ok kept ∙ s.sends.room_good) m; receives = s.receives })
+
+    -- what the side gives is what the connection gives
+    pub by_sender : {p : Outcome Answer rule.Connection} {r : Stepped} (out : sending.Stepped) → p ≡ within (with_sender (meaning c)) sends → r ≡ sent_by c out
+        → sender.Steps c.sender sends out → Steps c p r
+    by_sender out q f m = rw (q, f) (on_sender out.answer out.«record» m)
+
+  -- ---- and on the receiving side
   module _ (e : Receiving) where
     abbrev receives : Outcome Answer rule_receiver.Receiver
-    receives = rule-receiving.step c.mpr.told (receiver.meaning c.receiver) e
+    receives = rule-receiving.step (receiver.meaning c.receiver) e
 
     on_receiver : (a : Answer) (y : Receiver) → Meets paper receiver.Sound receiver.meaning c.receiver receives a y
-        → Meets paper Sound meaning c (within (with_receiver (meaning c)) receives) a (record { sender = c.sender; receiver = y; mpr = c.mpr })
+        → Meets paper Sound meaning c (within (with_receiver (meaning c)) receives) a (record { sender = c.sender; receiver = y })
     unfolding meaning lent.meaning table
     on_receiver a y m =
         part put (with_receiver (meaning c)) c c.receiver receives a y refl (λ x. refl) m (go sound)
       where
         put : Receiver → Connection
-        put x = record { sender = c.sender; receiver = x; mpr = c.mpr }
+        put x = record { sender = c.sender; receiver = x }
 
         go : Sound c → Sound (put y)
         go (inl n) =
             let free : rule_receiver.unused (receiver.meaning c.receiver) ≡ true =
             ap (λ (d : Connection). rule_receiver.unused (receiver.meaning d.receiver)) n in
-            inl (ap put (m.untouched 2 (unused_receiving c.mpr.told (receiver.meaning c.receiver) e free)) ∙ n)
+            inl (ap put (m.untouched 2 (unused_receiving (receiver.meaning c.receiver) e free)) ∙ n)
         go (inr s) =
-            let kept = (room_receiving c.mpr.told (receiver.meaning c.receiver) e).holds ∙ length_table c.receiver.room _ in
-            let same : y.room ≡ c.receiver.room =
-            sym (length_table y.room (lent.accepted (receiver.lent_of y))) ∙ ap rule_receiver.room m.record_is ∙ kept in
+            let kept = (room_receiving (receiver.meaning c.receiver) e).holds in
             inr (record {
               sends = s.sends;
               receives = receiver_in_use c.receiver y receives a
-                  (ap room_ok kept ∙ s.receives.room_good) m;
-              ranges = rw same s.ranges;
+                  (ap room_ok (kept ∙ length_table c.receiver.room (lent.accepted (receiver.lent_of c.receiver))) ∙ s.receives.room_good) m;
             })
 
     pub by_receiver : {p : Outcome Answer rule.Connection} {r : Stepped} (out : receiving.Stepped) → p ≡ within (with_receiver (meaning c)) receives

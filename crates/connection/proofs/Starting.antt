@@ -1,10 +1,10 @@
--- Two sides which are each started make a connection that is, with the MPR between their rooms. Assumes nothing.
+-- Two sides which are each started make a connection that is. Assumes nothing.
 use mathlib.Core.Path.{◌≡◌, refl, sym, ap, ◌∙◌}
-use mathlib.Core.Bool.{true, false}
+use mathlib.Core.Bool.{Bool, true, false}
 use mathlib.Core.Logic.{inr}
 use lib.ListN.{length, length-replicate}
 use borrow.Author.Tests.{not-false}
-use Rattle.promise.specs.Outcome.{unless, left}
+use Rattle.promise.specs.Outcome.{Outcome, Done, unless, left}
 use Rattle.promise.proofs.Refusing.{Past, none_left}
 use Rattle.promise.proofs.Meeting.{does}
 use Rattle.rules.specs.Numbers.{psn_ok, room_ok}
@@ -14,11 +14,6 @@ use Rattle.rules.specs.Connection.{fresh, start, start_refusals}
 use Rattle.rules.specs.declared.Answer.TheVariants as answer
 use Rattle.rules.specs.declared.Opening.{Opening}
 use Rattle.rules.specs.declared.Start.{Start}
-use Rattle.rules.specs.Mpr as mpr
-use Rattle.rules.specs.declared.Mpr.{Mpr}
-use Rattle.rules.proofs.Ranges.{ranges_fresh}
-use Rattle.lists.proofs.Index.{length_table}
-use Rattle.sending.specs.Lent as rows
 use Rattle.sender.specs.declared.Stepped as sending
 use Rattle.sender.specs.Record as sender
 use Rattle.receiving.specs.Lent as lent
@@ -56,26 +51,16 @@ module _ (o : Opening) (good : room_ok o.room ≡ true) (low : psn_ok o.first �
 module _ (s : Start) (passed : Past (start_refusals s) (length (start_refusals s))) where
   pub starts : (x : sending.Stepped) (y : receiving.Stepped) → sender.Steps sender.empty (rule_sender.start s.sending) x
       → receiver.Steps receiver.empty (rule_receiver.start s.receiving) y
-      → (k : Mpr) → k ≡ mpr.fresh s.options.dynamic s.sending.room s.receiving.room
-      → Steps empty (start s) (record { answer = answer.Started; «record» = record { sender = x.«record»; receiver = y.«record»; mpr = k } })
-  unfolding meaning start start_refusals fresh rows.meaning lent.meaning rule_sender.fresh rule_receiver.fresh Past
-  starts x y m n k is =
+      → Steps empty (start s) (record { answer = answer.Started; «record» = record { sender = x.«record»; receiver = y.«record» } })
+  unfolding meaning start start_refusals fresh Past
+  starts x y m n =
       let send_good = not-false (room_ok s.sending.room) passed.0 in
       let receive_good = not-false (room_ok s.receiving.room) passed.1.0 in
       let send_low = not-false (psn_ok s.sending.first) passed.1.1.0 in
       let receive_low = not-false (psn_ok s.receiving.first) passed.1.1.1.0 in
-      let receive_room : y.«record».room ≡ s.receiving.room =
-      sym (length_table y.«record».room (lent.accepted (receiver.lent_of y.«record»)))
-      ∙ ap rule_receiver.room (receives_fresh s.receiving receive_good receive_low y n) ∙ length-replicate s.receiving.room false in
       does (fresh s) answer.Started (none_left (start_refusals s) _ passed) refl
       (λ i. record {
         sender = sends_fresh s.sending send_good send_low x m i;
         receiver = receives_fresh s.receiving receive_good receive_low y n i;
-        mpr = is i;
       })
-      (inr (record {
-        sends = sends s.sending send_good send_low x m;
-        receives = receives s.receiving receive_good receive_low y n;
-        ranges = rw (ap (λ (z : rule_sender.Sender). z.room) (sends_fresh s.sending send_good send_low x m), receive_room, is)
-            (ranges_fresh s.options.dynamic s.sending.room s.receiving.room send_good);
-      }))
+      (inr (record { sends = sends s.sending send_good send_low x m; receives = receives s.receiving receive_good receive_low y n }))

@@ -1,18 +1,16 @@
-// One connection by value: a sender and a receiver that share nothing, and the MPR beside them. An event touches one side, and the other comes back
-// as it was.
+// One connection by value: a sender and a receiver that share nothing. An event touches one side, and the other comes back as it was.
 ghost use Rattle.std.specs.Prelude.{◌≡◌};
-ghost use Rattle.rules.specs.Connection.{close as close_of, sends as sends_of, set_mpr as set_mpr_of, start as start_of, step as step_of};
-ghost use Rattle.connection.specs.Record.{empty as empty_of, meaning, received_by, Sound, Steps};
+ghost use Rattle.rules.specs.Connection.{close as close_of, start as start_of, step as step_of};
+ghost use Rattle.connection.specs.Record.{empty as empty_of, meaning, received_by, sent_by, Sound, Steps};
 
 use receiver::Receiver;
-use rules::{Answer, Mpr, Sending, Start, Use};
+use rules::{Answer, Start, Use};
 use sender::Sender;
 
 #[derive(Drop)]
 pub struct Connection {
     pub sender: Sender,
     pub receiver: Receiver,
-    pub mpr: Mpr,
 }
 
 // The answer to an event, and the record after it.
@@ -30,7 +28,6 @@ impl Connection {
         Connection {
             sender: Sender::empty(),
             receiver: Receiver::empty(),
-            mpr: mpr::empty(),
         }
     }
 
@@ -44,34 +41,16 @@ impl Connection {
         }
     }
 
-    // An event of the sending side, given the sender's present MPR. A SACK that is done may bring a new one, and a flag.
-    fn sends(self, event: Sending) -> Stepped
-        requires { Sound self }
-        ensures { Steps self (sends_of (meaning self) event) result }
+    // The connection after an event on its sending side.
+    fn sent(self, out: sender::Stepped) -> Stepped
+        ensures { result ≡ sent_by self out }
     {
-        let sender = self.sender;
-        let receiver = self.receiver;
-        let m = self.mpr;
-        let out = sender.step(m.limit, event);
         let answer = out.answer;
-        if let Answer::Refused(_) = answer {
-            return Stepped {
-                answer,
-                record: self,
-            };
-        }
-        let next = out.record;
-        let place = sender.place;
-        let flag = mpr::flag(m, event);
-        let told = mpr::flagged(flag, answer);
-        let after = mpr::heard(m, sender.room, place, sender.outstanding, event);
+        let sender = out.record;
+        let receiver = self.receiver;
         Stepped {
-            answer: told,
-            record: Connection {
-                sender: next,
-                receiver,
-                mpr: after,
-            },
+            answer,
+            record: Connection { sender, receiver },
         }
     }
 
@@ -82,14 +61,9 @@ impl Connection {
         let answer = out.answer;
         let receiver = out.record;
         let sender = self.sender;
-        let mpr = self.mpr;
         Stepped {
             answer,
-            record: Connection {
-                sender,
-                receiver,
-                mpr,
-            },
+            record: Connection { sender, receiver },
         }
     }
 
@@ -100,7 +74,6 @@ impl Connection {
         let none = Connection::empty();
         let sending = opening.sending;
         let receiving = opening.receiving;
-        let options = opening.options;
         if !allowed::room_ok(sending.room as u32) {
             return none.refused(4);
         }
@@ -119,14 +92,9 @@ impl Connection {
         let received = Receiver::start(receiving);
         let sender = sent.record;
         let receiver = received.record;
-        let mpr = mpr::fresh(options.dynamic, sending.room as u32, receiving.room as u32);
         Stepped {
             answer: Answer::Started,
-            record: Connection {
-                sender,
-                receiver,
-                mpr,
-            },
+            record: Connection { sender, receiver },
         }
     }
 
@@ -146,46 +114,17 @@ impl Connection {
         }
     }
 
-    // The receiver's host sets the MPR that its SACKs carry.
-    pub fn set_mpr(self, value: u8) -> Stepped
-        requires { Sound self }
-        ensures { Steps self (set_mpr_of (meaning self) value) result }
-    {
-        let sender = self.sender;
-        let receiver = self.receiver;
-        let m = self.mpr;
-        if sender.room == 0 {
-            return self.refused(2);
-        }
-        if !mpr::settable(m, receiver.room, value) {
-            return self.refused(23);
-        }
-        Stepped {
-            answer: Answer::MprSet,
-            record: Connection {
-                sender,
-                receiver,
-                mpr: Mpr {
-                    dynamic: m.dynamic,
-                    limit: m.limit,
-                    told: value,
-                },
-            },
-        }
-    }
-
-    // A close, an event of one side, or the host's. An arrival is given the MPR that its SACK carries.
+    // A close, or an event of one side.
     pub fn step(self, event: Use) -> Stepped
         requires { Sound self }
         ensures { Steps self (step_of (meaning self) event) result }
     {
+        let sender = self.sender;
         let receiver = self.receiver;
-        let m = self.mpr;
         match event {
             Use::Close => self.close(),
-            Use::Sends(e) => self.sends(e),
-            Use::Receives(e) => self.received(receiver.step(m.told, e)),
-            Use::SetMpr(value) => self.set_mpr(value),
+            Use::Sends(e) => self.sent(sender.step(e)),
+            Use::Receives(e) => self.received(receiver.step(e)),
         }
     }
 }

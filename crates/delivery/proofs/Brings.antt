@@ -51,7 +51,7 @@ abbrev Answered : World → World → ℕ → Type 0
 Answered w u i = (n : Note) × Sacks n i × (u.notes ≡ n ∷ w.notes)
 
 module _ (s : Start) {w : World} (run : Run (begin s) w) (p : Packet) (there : Memᴰ p w.wire) (near : Near p.number w.at)
-    (f : Fate) (W : Whole f) (mpr : ℕ) where
+    (f : Fate) (W : Whole f) where
   abbrev r : Receiver
   r = w.receiving
 
@@ -61,7 +61,7 @@ module _ (s : Start) {w : World} (run : Run (begin s) w) (p : Packet) (there : M
   I : Inv s w
   I = invariant run
 
-  taken : arrive mpr r a ≡ judged mpr r a (verdict r a)
+  taken : arrive r a ≡ judged r a (verdict r a)
   unfolding arrive arrive_refusals unless arrival
   taken =
       let psn_is = (I.carried p there).psn_is in
@@ -74,13 +74,13 @@ module _ (s : Start) {w : World} (run : Run (begin s) w) (p : Packet) (there : M
       )
 
   judged_whole : (k b : Bool) → judge false false k b false ≡ verdict r a
-      → let o = judged mpr r a (verdict r a) in Answered w (reply (with_receiver rules w (left r o)) p.number (arrival p f).size (message (answered o))) p.number
+      → let o = judged r a (verdict r a) in Answered w (reply (with_receiver rules w (left r o)) p.number (arrival p f).size (message (answered o))) p.number
   unfolding judge judged acked left answered message accepts reply with_receiver
   judged_whole true b e = rw (← e) (_, record { about_is = refl; accepting = _; sack = _; reply_is = refl }, refl)
   judged_whole false true e = absurd (never_beyond s w run p there near f (sym e))
   judged_whole false false e = rw (← e) (_, record { about_is = refl; accepting = _; sack = _; reply_is = refl }, refl)
 
-  answered_whole : let o = arrive mpr r a in Answered w (reply (with_receiver rules w (left r o)) p.number (arrival p f).size (message (answered o))) p.number
+  answered_whole : let o = arrive r a in Answered w (reply (with_receiver rules w (left r o)) p.number (arrival p f).size (message (answered o))) p.number
   unfolding verdict arrival
   answered_whole = rw taken (judged_whole (known r p.psn) (beyond r p.psn) (rw (W.not_trimmed, W.not_trimmed_last, W.buffered)))
 
@@ -90,6 +90,6 @@ brings_sack s w u run (sends z a x g) i b = absurd b
 brings_sack s w u run (resends a x g) i b = absurd b
 brings_sack s w u run (timers p a x g) i b = absurd b
 brings_sack s w u run (hears m there h a x g) i b = absurd b
-brings_sack s w u run (arrives p there near f a r (mpr, given)) i b = rw (← b.0) (answered_whole s run p there near f (whole_is f b.1) mpr)
+brings_sack s w u run (arrives p there near f a r given) i b = rw (← b.0) (answered_whole s run p there near f (whole_is f b.1))
 brings_sack s w u run (beside_sender x g) i b = absurd b
 brings_sack s w u run (beside_receiver r g) i b = absurd b

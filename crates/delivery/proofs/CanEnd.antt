@@ -65,16 +65,16 @@ module _ {s : Start} {w : World} (I : Inv s w) (n : Note) (there : Memᴰ n w.no
   unfolding Readable
   readable = subst (λ (q : Reply). Readable w.low n q) (sym reply_is) (here_near, bits_near)
 
-  low_moves : w.low < w.low + distance w.sending.place (left w.sending (step 0 w.sending (hearing n.reply))).place
+  low_moves : w.low < w.low + distance w.sending.place (left w.sending (step w.sending (hearing n.reply))).place
   unfolding step hearing left
   low_moves =
       let far = place_moves I.keeps n.here k tells here_near bits_near in
       rw (reply_is, sack_taken I.keeps I.bound n.here k tells here_near bits_near, far)
       (omega (arith, sack_moves I.keeps I.bound n.here k tells here_near bits_near ahead))
 
-  hear_on : Onward w (rule_hear 0 w n)
+  hear_on : Onward w (rule_hear w n)
   unfolding rule_hear with_sender
-  hear_on = record { further = run_hear still 0 n there readable; same_packets = refl; moved = low_moves }
+  hear_on = record { further = run_hear still n there readable; same_packets = refl; moved = low_moves }
 
 -- where packet low is accepted, E is past it
 past : {s : Start} {w : World} → Inv s w → (i : ℕ) → i ≡ w.low → among w.accepted i ≡ true → i < w.at
@@ -89,7 +89,7 @@ clean = record { entropy = 0; flags = 0; cut = 0 }
 
 -- what is behind E is known
 known_arrives : {s : Start} {A : ℕ → Bool} {r : Receiver} {at : ℕ} → Holds s A r at → (i z : ℕ) → size_ok z ≡ true → i < at → at ≤ i + half
-    → arrive 0 r (plain (after s.first i) z) ≡ judged 0 r (plain (after s.first i) z) Known
+    → arrive r (plain (after s.first i) z) ≡ judged r (plain (after s.first i) z) Known
 unfolding arrive arrive_refusals unless plain bit_at flags_ok verdict judge known
 known_arrives {s} {r = r} {at = at} H i z good h near =
     let p : ℕ = after s.first i in
@@ -130,39 +130,39 @@ module _ {s : Start} {w : World} (I : Inv s w) (p : Packet) (there : Memᴰ p w.
       let at_sent = at_most I.holds.missing (length w.sent) (not_yet I) in
       omega (arith, not_ahead I, at_sent, I.keeps.next_is, I.keeps.room_left, room_few s.send_room s.send_good)
 
-  arrive_acked : (b : Bool) → among w.accepted p.number ≡ b → Acked w (rule_arrive 0 w p clean) p.number
+  arrive_acked : (b : Bool) → among w.accepted p.number ≡ b → Acked w (rule_arrive w p clean) p.number
   unfolding rule_arrive on_arrive noted acceptance arrival clean plain bit_at reply message answered left judged receiver.acked accepts among plus with_receiver
   arrive_acked true e =
       let r = w.receiving in
       let i = p.number in
       let z = p.size in
       let a : Arrival = plain p.psn z in
-      let met : arrive 0 r a ≡ judged 0 r a Known =
-      subst (λ (q : ℕ). arrive 0 r (plain q z) ≡ judged 0 r (plain q z) Known) (sym (I.carried p there).psn_is)
+      let met : arrive r a ≡ judged r a Known =
+      subst (λ (q : ℕ). arrive r (plain q z) ≡ judged r (plain q z) Known) (sym (I.carried p there).psn_is)
       (known_arrives I.holds i z (size_good I p there) (past I i is e) (omega (arith, near))) in
       subst (λ (o : Outcome Answer Receiver). Acked w (reply (with_receiver rules w (left r o)) i z (message (answered o))) i) (sym met)
-      (acked w (counted r a) w.accepted i z false (sack_of 0 (counted r a) a) e)
+      (acked w (counted r a) w.accepted i z false (sack_of (counted r a) a) e)
   arrive_acked false e =
       let r = w.receiving in
       let i = p.number in
       let z = p.size in
       let a : Arrival = plain p.psn z in
       let low = at_most I.holds.missing i e in
-      let met : arrive 0 r a ≡ judged 0 r a Fresh =
-      subst (λ (q : ℕ). arrive 0 r (plain q z) ≡ judged 0 r (plain q z) Fresh) (sym (I.carried p there).psn_is)
-      (plain_arrives I.holds i z (size_good I p there) e (omega (arith, not_ahead I, room_some s.receive_room s.receive_good)) 0) in
+      let met : arrive r a ≡ judged r a Fresh =
+      subst (λ (q : ℕ). arrive r (plain q z) ≡ judged r (plain q z) Fresh) (sym (I.carried p there).psn_is)
+      (plain_arrives I.holds i z (size_good I p there) e (omega (arith, not_ahead I, room_some s.receive_room s.receive_good))) in
       subst (λ (o : Outcome Answer Receiver). Acked w (reply (with_receiver rules w (left r o)) i z (message (answered o))) i) (sym met)
-      (let r' : Receiver = counted (accept r a) a in acked w r' (i ∷ w.accepted) i z true (sack_of 0 r' a) (plus_same i i (among w.accepted) refl))
+      (let r' : Receiver = counted (accept r a) a in acked w r' (i ∷ w.accepted) i z true (sack_of r' a) (plus_same i i (among w.accepted) refl))
 
   onward : (v : World) × Onward w v
   onward =
-      let u : World = rule_arrive 0 w p clean in
-      let run : Run w u = run_arrive still 0 p there near clean in
+      let u : World = rule_arrive w p clean in
+      let run : Run w u = run_arrive still p there near clean in
       let J : Inv s u = inv_run I run in
       let K = arrive_acked (among w.accepted p.number) refl in
       let low = past J p.number (is ∙ sym K.low_same) K.accepted in
       let H = hear_on J K.note K.there K.accepting K.answer K.reply_is (omega (arith, K.here_is, low, K.low_same)) in (
-        rule_hear 0 u K.note,
+        rule_hear u K.note,
         record {
           further = joined run H.further;
           same_packets = H.same_packets ∙ K.sent_same;

@@ -1,6 +1,5 @@
--- The rules' own effects on a world, and the runs that they extend: an event brings the rule's answer and leaves the rule's record. A send,
--- a resend and a reply that is heard are given a limit, and an arrival the MPR that its SACK carries; a timer goes by no limit. Assumes
--- nothing.
+-- The rules' own effects on a world, and the runs that they extend: an event brings the rule's answer and leaves the rule's record.
+-- Assumes nothing.
 use Prim.Native.Nat.{ℕ}
 use mathlib.Core.List.{List, ◌∷◌, Memᴰ}
 use Rattle.promise.specs.Outcome.{left}
@@ -14,20 +13,20 @@ use Rattle.delivery.specs.Network.{with_sender, on_send, on_resend, on_arrive}
 use Rattle.delivery.specs.Network.{sends, resends, timers, hears, arrives, then}
 use Rattle.delivery.specs.Rules.{given, rules, World, Run}
 
-unfoldable pub rule_send : ℕ → World → ℕ → World
-rule_send limit w z = let o = send limit w.sending z in on_send rules w z (answered o) (left w.sending o)
+unfoldable pub rule_send : World → ℕ → World
+rule_send w z = let o = send w.sending z in on_send rules w z (answered o) (left w.sending o)
 
-unfoldable pub rule_resend : ℕ → World → World
-rule_resend limit w = let o = resend limit w.sending in on_resend rules w (answered o) (left w.sending o)
+unfoldable pub rule_resend : World → World
+rule_resend w = let o = resend w.sending in on_resend rules w (answered o) (left w.sending o)
 
 unfoldable pub rule_timer : World → ℕ → World
 rule_timer w p = with_sender rules w (left w.sending (timer w.sending (psn p)))
 
-unfoldable pub rule_hear : ℕ → World → Note → World
-rule_hear limit w n = with_sender rules w (left w.sending (step limit w.sending (hearing n.reply)))
+unfoldable pub rule_hear : World → Note → World
+rule_hear w n = with_sender rules w (left w.sending (step w.sending (hearing n.reply)))
 
-unfoldable pub rule_arrive : ℕ → World → Packet → Fate → World
-rule_arrive mpr w p f = let o = arrive mpr w.receiving (arrival p f) in on_arrive rules w p f (answered o) (left w.receiving o)
+unfoldable pub rule_arrive : World → Packet → Fate → World
+rule_arrive w p f = let o = arrive w.receiving (arrival p f) in on_arrive rules w p f (answered o) (left w.receiving o)
 
 -- a world in which one more reply is noted, and the numbers accepted are l
 unfoldable pub noted : World → List ℕ → ℕ → ℕ → Reply → World
@@ -43,22 +42,22 @@ noted w l i z r = record {
 }
 
 module _ {v w : World} (r : Run v w) where
-  pub run_send : (limit z : ℕ) → Run v (rule_send limit w z)
+  pub run_send : (z : ℕ) → Run v (rule_send w z)
   unfolding rule_send step
-  run_send limit z = then r (sends z _ _ (limit, given))
+  run_send z = then r (sends z _ _ given)
 
-  pub run_resend : (limit : ℕ) → Run v (rule_resend limit w)
+  pub run_resend : Run v (rule_resend w)
   unfolding rule_resend step
-  run_resend limit = then r (resends _ _ (limit, given))
+  run_resend = then r (resends _ _ given)
 
   pub run_timer : (p : ℕ) → Run v (rule_timer w p)
   unfolding rule_timer step
-  run_timer p = then r (timers p _ _ (0, given))
+  run_timer p = then r (timers p _ _ given)
 
-  pub run_hear : (limit : ℕ) (n : Note) → Memᴰ n w.notes → Readable w.low n n.reply → Run v (rule_hear limit w n)
+  pub run_hear : (n : Note) → Memᴰ n w.notes → Readable w.low n n.reply → Run v (rule_hear w n)
   unfolding rule_hear
-  run_hear limit n there h = then r (hears n there h _ _ (limit, given))
+  run_hear n there h = then r (hears n there h _ _ given)
 
-  pub run_arrive : (mpr : ℕ) (p : Packet) → Memᴰ p w.wire → Near p.number w.at → (f : Fate) → Run v (rule_arrive mpr w p f)
+  pub run_arrive : (p : Packet) → Memᴰ p w.wire → Near p.number w.at → (f : Fate) → Run v (rule_arrive w p f)
   unfolding rule_arrive receiving.step
-  run_arrive mpr p there near f = then r (arrives p there near f _ _ (mpr, given))
+  run_arrive p there near f = then r (arrives p there near f _ _ given)

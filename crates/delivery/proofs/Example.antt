@@ -1,5 +1,5 @@
--- A run across the wrap of PSNs with losses, swaps, a trimmed packet, resends, packets that come twice and a late SACK, by computing it. Its
--- limit is at first the room and later 4, and its last SACK carries an MPR. Assumes nothing.
+-- A run across the wrap of PSNs with losses, swaps, a trimmed packet, resends, packets that come twice and a late SACK, by computing it.
+-- Assumes nothing.
 use mathlib.Core.Path.{◌≡◌, refl, ap}
 use mathlib.Core.Bool.{true, false}
 use mathlib.Core.List.Memᴰ
@@ -74,76 +74,76 @@ note w i = get_or w.notes i (record { reply = Nacks (record { psn = psn 0; reaso
 
 -- five packets go out. The last is lost; the third comes twice and the fourth once, then the second trimmed, and the first
 w5 : World
-w5 = rule_send 64 (rule_send 64 (rule_send 64 (rule_send 64 (rule_send 64 (begin s) 100) 200) 300) 400) 500
+w5 = rule_send (rule_send (rule_send (rule_send (rule_send (begin s) 100) 200) 300) 400) 500
 
 w10 : World
-w10 = rule_arrive 0 (rule_arrive 0 (rule_arrive 0 (rule_arrive 0 (rule_arrive 0 w5 p2 whole) p2 whole) p3 whole) p1 trimmed) p0 whole
+w10 = rule_arrive (rule_arrive (rule_arrive (rule_arrive (rule_arrive w5 p2 whole) p2 whole) p3 whole) p1 trimmed) p0 whole
 
 run10 : Run (begin s) w10
 unfolding opened.rules network s whole trimmed p0 p1 p2 p3 w5 w10
 run10 =
-    let r5 : Run (begin s) w5 = run_send (run_send (run_send (run_send (run_send still 64 100) 64 200) 64 300) 64 400) 64 500 in
-    let w6 : World = rule_arrive 0 w5 p2 whole in
-    let r6 : Run (begin s) w6 = run_arrive r5 0 p2 (Memᴰ.tail (Memᴰ.tail (Memᴰ.head refl))) (omega arith) whole in
-    let w7 : World = rule_arrive 0 w6 p2 whole in
-    let r7 : Run (begin s) w7 = run_arrive r6 0 p2 (Memᴰ.tail (Memᴰ.tail (Memᴰ.head refl))) (omega arith) whole in
-    let w8 : World = rule_arrive 0 w7 p3 whole in
-    let r8 : Run (begin s) w8 = run_arrive r7 0 p3 (Memᴰ.tail (Memᴰ.head refl)) (omega arith) whole in
-    let w9 : World = rule_arrive 0 w8 p1 trimmed in
-    let r9 : Run (begin s) w9 = run_arrive r8 0 p1 (Memᴰ.tail (Memᴰ.tail (Memᴰ.tail (Memᴰ.head refl)))) (omega arith) trimmed in
-    run_arrive r9 0 p0 (Memᴰ.tail (Memᴰ.tail (Memᴰ.tail (Memᴰ.tail (Memᴰ.head refl))))) (omega arith) whole
+    let r5 : Run (begin s) w5 = run_send (run_send (run_send (run_send (run_send still 100) 200) 300) 400) 500 in
+    let w6 : World = rule_arrive w5 p2 whole in
+    let r6 : Run (begin s) w6 = run_arrive r5 p2 (Memᴰ.tail (Memᴰ.tail (Memᴰ.head refl))) (omega arith) whole in
+    let w7 : World = rule_arrive w6 p2 whole in
+    let r7 : Run (begin s) w7 = run_arrive r6 p2 (Memᴰ.tail (Memᴰ.tail (Memᴰ.head refl))) (omega arith) whole in
+    let w8 : World = rule_arrive w7 p3 whole in
+    let r8 : Run (begin s) w8 = run_arrive r7 p3 (Memᴰ.tail (Memᴰ.head refl)) (omega arith) whole in
+    let w9 : World = rule_arrive w8 p1 trimmed in
+    let r9 : Run (begin s) w9 = run_arrive r8 p1 (Memᴰ.tail (Memᴰ.tail (Memᴰ.tail (Memᴰ.head refl)))) (omega arith) trimmed in
+    run_arrive r9 p0 (Memᴰ.tail (Memᴰ.tail (Memᴰ.tail (Memᴰ.tail (Memᴰ.head refl))))) (omega arith) whole
 
 -- the SACK of the fourth is heard, then late one of the third
 w12 : World
-w12 = rule_hear 64 (rule_hear 64 w10 (note w10 2)) (note w10 3)
+w12 = rule_hear (rule_hear w10 (note w10 2)) (note w10 3)
 
 run12 : Run (begin s) w12
 unfolding opened.rules network s whole trimmed p0 p1 p2 p3 w5 w10 note w12
 run12 =
-    let w11 : World = rule_hear 64 w10 (note w10 2) in
+    let w11 : World = rule_hear w10 (note w10 2) in
     let r11 : Run (begin s) w11 =
-    run_hear run10 64 (note w10 2) (Memᴰ.tail (Memᴰ.tail (Memᴰ.head refl))) (omega arith, λ j h e. omega arith) in
-    run_hear r11 64 (note w10 3) (Memᴰ.tail (Memᴰ.tail (Memᴰ.tail (Memᴰ.head refl)))) (omega arith, λ j h e. omega arith)
+    run_hear run10 (note w10 2) (Memᴰ.tail (Memᴰ.tail (Memᴰ.head refl))) (omega arith, λ j h e. omega arith) in
+    run_hear r11 (note w10 3) (Memᴰ.tail (Memᴰ.tail (Memᴰ.tail (Memᴰ.head refl)))) (omega arith, λ j h e. omega arith)
 
 -- then the NACK of the second and the SACK of the first
 w14 : World
-w14 = rule_hear 64 (rule_hear 64 w12 (note w10 1)) (note w10 0)
+w14 = rule_hear (rule_hear w12 (note w10 1)) (note w10 0)
 
 run14 : Run (begin s) w14
 unfolding opened.rules network s whole trimmed p0 p1 p2 p3 w5 w10 note w12 w14
 run14 =
-    let r13 : Run (begin s) (rule_hear 64 w12 (note w10 1)) = run_hear run12 64 (note w10 1) (Memᴰ.tail (Memᴰ.head refl)) (omega arith) in
-    run_hear r13 64 (note w10 0) (Memᴰ.head refl) (omega arith, λ j h e. omega arith)
+    let r13 : Run (begin s) (rule_hear w12 (note w10 1)) = run_hear run12 (note w10 1) (Memᴰ.tail (Memᴰ.head refl)) (omega arith) in
+    run_hear r13 (note w10 0) (Memᴰ.head refl) (omega arith, λ j h e. omega arith)
 
--- the timer of the last runs out, and both go out again and come, the limit being 4 by now. Their SACKs are lost
+-- the timer of the last runs out, and both go out again and come. Their SACKs are lost
 w17 : World
-w17 = rule_resend 4 (rule_resend 4 (rule_timer w14 2))
+w17 = rule_resend (rule_resend (rule_timer w14 2))
 
 w19 : World
-w19 = rule_arrive 0 (rule_arrive 0 w17 p1 retried) p4 retried
+w19 = rule_arrive (rule_arrive w17 p1 retried) p4 retried
 
 run19 : Run (begin s) w19
 unfolding opened.rules network s whole trimmed retried p0 p1 p2 p3 p4 w5 w10 note w12 w14 w17 w19
 run19 =
-    let r17 : Run (begin s) w17 = run_resend (run_resend (run_timer run14 2) 4) 4 in
-    let r18 : Run (begin s) (rule_arrive 0 w17 p1 retried) = run_arrive r17 0 p1 (Memᴰ.tail (Memᴰ.head refl)) (omega arith) retried in
-    run_arrive r18 0 p4 (Memᴰ.head refl) (omega arith) retried
+    let r17 : Run (begin s) w17 = run_resend (run_resend (run_timer run14 2)) in
+    let r18 : Run (begin s) (rule_arrive w17 p1 retried) = run_arrive r17 p1 (Memᴰ.tail (Memᴰ.head refl)) (omega arith) retried in
+    run_arrive r18 p4 (Memᴰ.head refl) (omega arith) retried
 
--- the first comes once more, and the SACK that answers it, which carries 1, is heard
+-- the first comes once more, and the SACK that answers it is heard
 w20 : World
-w20 = rule_arrive 1 w19 p0 whole
+w20 = rule_arrive w19 p0 whole
 
 w21 : World
-w21 = rule_hear 4 w20 (note w20 0)
+w21 = rule_hear w20 (note w20 0)
 
 run21 : Run (begin s) w21
 unfolding opened.rules network s whole trimmed retried p0 p1 p2 p3 p4 w5 w10 note w12 w14 w17 w19 w20 w21
 run21 =
     let r20 : Run (begin s) w20 =
-    run_arrive run19 1 p0
+    run_arrive run19 p0
     (Memᴰ.tail (Memᴰ.tail (Memᴰ.tail (Memᴰ.tail (Memᴰ.tail (Memᴰ.tail (Memᴰ.head refl)))))))
     (omega arith) whole in
-    run_hear r20 4 (note w20 0) (Memᴰ.head refl) (omega arith, λ j h e. omega arith)
+    run_hear r20 (note w20 0) (Memᴰ.head refl) (omega arith, λ j h e. omega arith)
 
 -- ---- what it comes to
 -- a clear bit of the late SACK says nothing
@@ -157,7 +157,7 @@ unfolding opened.rules network s whole trimmed p0 p1 p2 p3 w5 w10 note w12 w14
 half_way = (refl, refl, refl, refl, refl)
 
 twice : (note w20 0).reply
-    ≡ Acks false (record { cack = psn 2; block = record { base = psn 3; bitmap = 0 }; count = 7; mpr = 1; entropy = 7; rtx = false; mark = false })
+    ≡ Acks false (record { cack = psn 2; block = record { base = psn 3; bitmap = 0 }; count = 7; mpr = 0; entropy = 7; rtx = false; mark = false })
 unfolding opened.rules network s whole trimmed retried p0 p1 p2 p3 p4 w5 w10 note w12 w14 w17 w19 w20
 twice = refl
 

@@ -9,13 +9,12 @@ use native.Mathlib.Omega.{arith}
 use lib.Dec.{leb}
 use lib.ListN.{length}
 use borrow.Author.Tests.{le-leb}
-use Rattle.promise.specs.Outcome.{Outcome, Refused, unless, left}
+use Rattle.promise.specs.Outcome.{Refused, unless, left}
 use Rattle.rules.specs.Numbers.{psn}
 use Rattle.rules.specs.Paper.{answered}
 use Rattle.rules.specs.Sender.{Sender, outstanding, nth, unused}
-use Rattle.rules.specs.Marks.{nearest}
+use Rattle.rules.specs.Marks.{nearest, resent}
 use Rattle.rules.specs.Sending.{resend_refusals, resend, step}
-use Rattle.rules.specs.declared.Answer.{Answer}
 use Rattle.delivery.specs.Wire.{Packet, message}
 use Rattle.delivery.specs.Network.{Start, with_sender, put, on_resend, Next, resends, timers, still, then}
 use Rattle.delivery.specs.Rules.{given, rules, World, Run, begin}
@@ -80,20 +79,20 @@ from_here G = record {
 }
 
 -- ---- nothing is outstanding: a timer and a resend take turns
-rests_resend : (limit : ℕ) (x : Sender) → outstanding x ≡ 0 → (n : ℕ) × (resend limit x ≡ Refused n)
+rests_resend : (x : Sender) → outstanding x ≡ 0 → (n : ℕ) × (resend x ≡ Refused n)
 unfolding resend resend_refusals unless
-rests_resend limit x none = go (unused x) _
+rests_resend x none = go (unused x)
   where
-    go : (b : Bool) (o : Outcome Answer Sender) → (n : ℕ) × (cond b (Refused 2) (cond (leb (outstanding x) (nearest x)) (Refused 9) o) ≡ Refused n)
-    go true o = (2, refl)
-    go false o = (9, rw (le-leb (outstanding x) (nearest x) (omega arith)))
+    go : (b : Bool) → (n : ℕ) × (cond b (Refused 2) (cond (leb (outstanding x) (nearest x)) (Refused 9) (resent x)) ≡ Refused n)
+    go true = (2, refl)
+    go false = (9, rw (le-leb (outstanding x) (nearest x) (omega arith)))
 
--- a timer, and a resend after it, with limit 1
+-- a timer, and a resend after it
 timed : World → World
 timed w = rule_timer w (nth w.sending 0)
 
 turn : World → World
-turn w = rule_resend 1 (timed w)
+turn w = rule_resend (timed w)
 
 idle : World → ℕ → World
 idle w zero = w
@@ -102,8 +101,8 @@ idle w (suc (suc t)) = idle (turn w) t
 
 idle_next : (w : World) (t : ℕ) → Next rules (idle w t) (idle w (suc t))
 unfolding idle turn timed rule_timer rule_resend step
-idle_next w zero = timers (nth w.sending 0) _ _ (0, given)
-idle_next w (suc zero) = resends _ _ (1, given)
+idle_next w zero = timers (nth w.sending 0) _ _ given
+idle_next w (suc zero) = resends _ _ given
 idle_next w (suc (suc t)) = idle_next (turn w) t
 
 -- the first of turn n
@@ -123,7 +122,7 @@ idle_times w (suc n) = idle_times (turn w) n
 
 idle_resends : (w : World) (n : ℕ) → Resends (idle_next w (suc (twice n)))
 unfolding Resends twice idle_next
-idle_resends w zero = omega arith
+idle_resends w zero = tt
 idle_resends w (suc n) = idle_resends (turn w) n
 
 module _ (w : World) (none : outstanding w.sending ≡ 0) where
@@ -131,9 +130,9 @@ module _ (w : World) (none : outstanding w.sending ≡ 0) where
   unfolding timed rule_timer with_sender
   timed_rests = ((quiet_timer w.sending (psn (nth w.sending 0))).outstanding_same ∙ none, refl)
 
-  resend_rests : (outstanding (rule_resend 1 w).sending ≡ 0) × ((rule_resend 1 w).wire ≡ w.wire)
+  resend_rests : (outstanding (rule_resend w).sending ≡ 0) × ((rule_resend w).wire ≡ w.wire)
   unfolding rule_resend on_resend answered message left put with_sender
-  resend_rests = rw (rests_resend 1 w.sending none).1 (none, refl)
+  resend_rests = rw (rests_resend w.sending none).1 (none, refl)
 
 idle_calm : (w : World) → outstanding w.sending ≡ 0 → (t : ℕ) → (idle w (suc t)).wire ≡ (idle w t).wire
 unfolding idle turn

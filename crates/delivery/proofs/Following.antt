@@ -1,22 +1,17 @@
 -- A run of any two sides that follow two others is a run of those: so what demand 3 promises of the rules' runs is kept by any two sides
--- that follow the rules, with what their records mean. Their answers need only be alike: demand 3 says no more of an answer than what it puts
--- on the wire and that it is not 17. Assumes nothing.
+-- that follow the rules, with what their records mean. Assumes nothing.
 use mathlib.Core.Path.{◌≡◌, refl, sym, ap, ap₂, ◌∙◌, subst}
-use mathlib.Core.Bool.{Bool, true}
+use mathlib.Core.Bool.{true}
 use mathlib.Core.List.{List, ◌∷◌, Memᴰ}
-use mathlib.Core.Logic.{inl, inr}
 use Prim.Native.Nat.{ℕ, ◌<◌}
 use Rattle.rules.specs.Numbers.{turn, psn, room_ok}
-use Rattle.rules.specs.Mpr.{flagged}
 use Rattle.rules.specs.Receiver as receiver
 use Rattle.rules.specs.Receiving.{Receiving, Arrive}
 use Rattle.rules.specs.Sender as sender
 use Rattle.rules.specs.declared.Answer.{Answer}
-use Rattle.rules.specs.declared.Answer.TheVariants as answer
 use Rattle.rules.specs.declared.Opening.{Opening}
 use Rattle.rules.specs.declared.Sending.{Sending}
 use Rattle.rules.specs.declared.Sending.TheVariants as sending
-use Rattle.rules.proofs.Flagged.{same_or_sack}
 use Rattle.delivery.specs.Wire.{Packet, Fate, arrival, hearing, Message, Silent, Goes, Replies, message, Note, Near, Readable}
 use Rattle.delivery.specs.Network.{Start, opening, Side, Sides, Worlds, meant, begin, put, reply}
 use Rattle.delivery.specs.Network.{with_sender, with_receiver, on_send, again, on_resend, on_arrive}
@@ -28,32 +23,6 @@ use Rattle.delivery.proofs.Places.{stays}
 use Rattle.delivery.proofs.Theorem.{delivers}
 use Rattle.delivery.proofs.Never.{never_contradicts}
 
--- ---- an answer that is like another: both put the same on the wire, and where the one is 17 the other is
-pub record Alike (a b : Answer) : Type 0 where
-  pub message_same : message b ≡ message a
-  pub both_17 : a ≡ answer.Refused 17 → b ≡ answer.Refused 17
-
-pub itself_alike : (a : Answer) → Alike a a
-itself_alike a = record { message_same = refl; both_17 = λ e. e }
-
--- an answer with the flag of 02, No. 7 beside it is like the one without
-pub flagged_alike : (b : Bool) (a : Answer) → Alike (flagged b a) a
-unfolding flagged message
-flagged_alike b a = elim (same_or_sack b a) [
-  | inl e ↦ rw e (itself_alike a)
-  | inr k ↦ rw k.1 (record { message_same = refl; both_17 = λ e. cc })
-]
-
--- a side steps so, with an answer that is like a
-pub record Likewise {E : Type 0} (T : Side E) (x : T.State) (e : E) (a : Answer) (y : T.State) : Type 0 where
-  pub said : Answer
-  pub alike : Alike a said
-  pub steps : T.Steps x e said y
-
--- or with a itself
-pub exactly : {E : Type 0} (T : Side E) (x : T.State) (e : E) (a : Answer) (y : T.State) → T.Steps x e a y → Likewise T x e a y
-exactly T x e a y g = record { said = a; alike = itself_alike a; steps = g }
-
 -- ---- a side that follows another
 pub record Follows {E : Type 0} (S T : Side E) : Type 1 where
   -- what a record of S is in T, and what every record of S that is reached has
@@ -61,7 +30,7 @@ pub record Follows {E : Type 0} (S T : Side E) : Type 1 where
   pub Kept : S.State → Type 0
   pub places : (x : S.State) → S.place x ≡ T.place (meaning x)
   pub begins : (o : Opening) (x : S.State) → room_ok o.room ≡ true → o.first.0 < turn → S.Begins o x → T.Begins o (meaning x) × Kept x
-  pub steps : (x : S.State) (e : E) (a : Answer) (y : S.State) → Kept x → S.Steps x e a y → Likewise T (meaning x) e a (meaning y) × Kept y
+  pub steps : (x : S.State) (e : E) (a : Answer) (y : S.State) → Kept x → S.Steps x e a y → T.Steps (meaning x) e a (meaning y) × Kept y
   -- what else happens is nothing to T
   pub beside : (x y : S.State) → Kept x → S.Beside x y → (meaning y ≡ meaning x) × Kept y
 
@@ -122,14 +91,14 @@ module _ {n m : Sides} (F : Following n m) where
     unfolding with_sender meant
     sender_meant = rw (← F.sender.places w.sending, ← F.sender.places x)
 
-    send_meant : (z : ℕ) (a b : Answer) → Alike a b → on_send m (through w) z b (F.sender.meaning x) ≡ through (on_send n w z a x)
+    send_meant : (z : ℕ) (a : Answer) → on_send m (through w) z a (F.sender.meaning x) ≡ through (on_send n w z a x)
     unfolding on_send meant
-    send_meant z a b A = rw A.message_same (put_meant (with_sender n w x) _ (z ∷ w.sent) _ _ (message a) sender_meant (λ p. refl))
+    send_meant z a = put_meant (with_sender n w x) _ (z ∷ w.sent) _ _ (message a) sender_meant (λ p. refl)
 
-    resend_meant : (a b : Answer) → Alike a b → on_resend m (through w) b (F.sender.meaning x) ≡ through (on_resend n w a x)
+    resend_meant : (a : Answer) → on_resend m (through w) a (F.sender.meaning x) ≡ through (on_resend n w a x)
     unfolding on_resend again meant
-    resend_meant a b A = rw A.message_same (put_meant (with_sender n w x) _ w.sent (again n w) _ (message a) sender_meant
-        (λ p. rw (← F.sender.places w.sending)))
+    resend_meant a = put_meant (with_sender n w x) _ w.sent (again n w) _ (message a) sender_meant
+        (λ p. rw (← F.sender.places w.sending))
 
     beside_sender_meant : F.sender.meaning x ≡ F.sender.meaning w.sending → through w ≡ through (with_sender n w x)
     unfolding with_sender meant
@@ -143,10 +112,9 @@ module _ {n m : Sides} (F : Following n m) where
     unfolding with_receiver meant
     receiver_meant = rw (← F.receiver.places w.receiving, ← F.receiver.places r)
 
-    arrive_meant : (p : Packet) (f : Fate) (a b : Answer) → Alike a b
-        → on_arrive m (through w) p f b (F.receiver.meaning r) ≡ through (on_arrive n w p f a r)
+    arrive_meant : (p : Packet) (f : Fate) (a : Answer) → on_arrive m (through w) p f a (F.receiver.meaning r) ≡ through (on_arrive n w p f a r)
     unfolding on_arrive
-    arrive_meant p f a b A = rw A.message_same (reply_meant (with_receiver n w r) _ p.number _ (message a) receiver_meant)
+    arrive_meant p f a = reply_meant (with_receiver n w r) _ p.number _ (message a) receiver_meant
 
     beside_receiver_meant : F.receiver.meaning r ≡ F.receiver.meaning w.receiving → through w ≡ through (with_receiver n w r)
     unfolding with_receiver meant
@@ -165,12 +133,12 @@ module _ {n m : Sides} (F : Following n m) where
   with_receiver_kept w r K k = record { of_sender = K.of_sender; of_receiver = k }
 
   sender_steps : (w : Worlds n) (e : Sending) (a : Answer) (x : n.sender.State) → Kept w → n.sender.Steps w.sending e a x
-      → Likewise m.sender (through w).sending e a (F.sender.meaning x) × Kept (with_sender n w x)
+      → m.sender.Steps (through w).sending e a (F.sender.meaning x) × Kept (with_sender n w x)
   unfolding meant
   sender_steps w e a x K g = let h = F.sender.steps w.sending e a x K.of_sender g in (h.0, with_sender_kept w x K h.1)
 
   receiver_steps : (w : Worlds n) (e : Receiving) (a : Answer) (r : n.receiver.State) → Kept w → n.receiver.Steps w.receiving e a r
-      → Likewise m.receiver (through w).receiving e a (F.receiver.meaning r) × Kept (with_receiver n w r)
+      → m.receiver.Steps (through w).receiving e a (F.receiver.meaning r) × Kept (with_receiver n w r)
   unfolding meant
   receiver_steps w e a r K g = let h = F.receiver.steps w.receiving e a r K.of_receiver g in (h.0, with_receiver_kept w r K h.1)
 
@@ -187,33 +155,32 @@ module _ {n m : Sides} (F : Following n m) where
     unfolding on_send
     then_sends z a x g =
         let h = sender_steps w (sending.Send z) a x R.kept g in
-        goes_on _ _ (send_meant w x z a _ h.0.alike) (then R.run (sends z _ _ h.0.steps)) (put_kept (with_sender n w x) _ _ (message a) h.1)
+        goes_on _ _ (send_meant w x z a) (then R.run (sends z a _ h.0)) (put_kept (with_sender n w x) _ _ (message a) h.1)
 
     then_resends : (a : Answer) (x : n.sender.State) → n.sender.Steps w.sending sending.Resend a x → Followed v (on_resend n w a x)
     unfolding on_resend
     then_resends a x g =
         let h = sender_steps w sending.Resend a x R.kept g in
-        goes_on _ _ (resend_meant w x a _ h.0.alike) (then R.run (resends _ _ h.0.steps)) (put_kept (with_sender n w x) _ _ (message a) h.1)
+        goes_on _ _ (resend_meant w x a) (then R.run (resends a _ h.0)) (put_kept (with_sender n w x) _ _ (message a) h.1)
 
     then_timers : (p : ℕ) (a : Answer) (x : n.sender.State) → n.sender.Steps w.sending (sending.Timer (psn p)) a x → Followed v (with_sender n w x)
     then_timers p a x g =
         let h = sender_steps w (sending.Timer (psn p)) a x R.kept g in
-        goes_on _ _ (sender_meant w x) (then R.run (timers p _ _ h.0.steps)) h.1
+        goes_on _ _ (sender_meant w x) (then R.run (timers p a _ h.0)) h.1
 
     then_hears : (k : Note) → Memᴰ k w.notes → Readable w.low k k.reply → (a : Answer) (x : n.sender.State)
         → n.sender.Steps w.sending (hearing k.reply) a x → Followed v (with_sender n w x)
     unfolding meant
     then_hears k there near a x g =
         let h = sender_steps w (hearing k.reply) a x R.kept g in
-        goes_on _ _ (sender_meant w x) (then R.run (hears k there near _ _ h.0.steps)) h.1
+        goes_on _ _ (sender_meant w x) (then R.run (hears k there near a _ h.0)) h.1
 
     then_arrives : (p : Packet) → Memᴰ p w.wire → Near p.number w.at → (f : Fate) (a : Answer) (r : n.receiver.State)
         → n.receiver.Steps w.receiving (Arrive (arrival p f)) a r → Followed v (on_arrive n w p f a r)
     unfolding meant on_arrive
     then_arrives p there near f a r g =
         let h = receiver_steps w (Arrive (arrival p f)) a r R.kept g in
-        goes_on _ _ (arrive_meant w r p f a _ h.0.alike) (then R.run (arrives p there near f _ _ h.0.steps))
-        (reply_kept (with_receiver n w r) p.number _ (message a) h.1)
+        goes_on _ _ (arrive_meant w r p f a) (then R.run (arrives p there near f a _ h.0)) (reply_kept (with_receiver n w r) p.number _ (message a) h.1)
 
     then_beside_sender : (x : n.sender.State) → n.sender.Beside w.sending x → Followed v (with_sender n w x)
     then_beside_sender x g =
@@ -269,7 +236,6 @@ keeps F s x r b c w run =
     record {
       run = ours_run;
       promise = delivers s _ ours_run;
-      consistent = λ m there a y g e.
-          let L = (F.sender.steps w.sending (hearing m.reply) a y K.of_sender g).0 in
-          never_contradicts s _ ours_run m there L.said (F.sender.meaning y) L.steps (L.alike.both_17 e);
+      consistent = λ m there a y g.
+          never_contradicts s _ ours_run m there a (F.sender.meaning y) (F.sender.steps w.sending (hearing m.reply) a y K.of_sender g).0;
     }

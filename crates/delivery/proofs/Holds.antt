@@ -185,19 +185,18 @@ module _ {s : Start} {A : ℕ → Bool} {r : Receiver} {at : ℕ} (H : Holds s A
       go false e = omega arith
 
   -- the block's base is as far past E as it says
-  base_is_at : (mpr : ℕ) (a : Arrival) → base_number at (sack_of mpr r a) ≡ at + block_at r a.psn.0
+  base_is_at : (a : Arrival) → base_number at (sack_of r a) ≡ at + block_at r a.psn.0
   unfolding sack_of block base_number
-  base_is_at mpr a =
+  base_is_at a =
       let o : ℕ = block_at r a.psn.0 in
       let up : after (before r.expected) 1 ≡ after s.first at = ap (λ (p : ℕ). after (before p) 1) H.expected_is ∙ past_one s.first at in
       let base : after r.expected o ≡ after s.first (at + o) = ap (λ (p : ℕ). after p o) H.expected_is ∙ after_after s.first at o in
       ap (λ (x : ℕ). at + x) (moved s.first at o _ _ up base (block_few a.psn.0))
 
   -- a set bit is an entry of the window, past E and not half round the circle
-  bit_entry : (mpr : ℕ) (a : Arrival) (j : ℕ) → bit_at (sack_of mpr r a).block.bitmap j ≡ true
-      → get_or r.window (block_at r a.psn.0 + j) false ≡ true
+  bit_entry : (a : Arrival) (j : ℕ) → bit_at (sack_of r a).block.bitmap j ≡ true → get_or r.window (block_at r a.psn.0 + j) false ≡ true
   unfolding sack_of block
-  bit_entry mpr a j e =
+  bit_entry a j e =
       let rest = drop (block_at r a.psn.0) r.window in
       sym (get_or-drop (block_at r a.psn.0) r.window j false) ∙ take_true 64 rest j (sym (bit_pack (take 64 rest) j) ∙ e)
 
@@ -210,22 +209,22 @@ module _ {s : Start} {A : ℕ → Bool} {r : Receiver} {at : ℕ} (H : Holds s A
   not_half : (i : ℕ) → get_or r.window i false ≡ true → i + 1 < half
   not_half i e = omega (arith, in_range r.window i e, H.room_is, room_few s.receive_room s.receive_good)
 
-  pub sack_tells : (mpr : ℕ) (a : Arrival) → Tells s A at (sack_of mpr r a)
+  pub sack_tells : (a : Arrival) → Tells s A at (sack_of r a)
   unfolding sack_of block
-  sack_tells mpr a =
+  sack_tells a =
       let o : ℕ = block_at r a.psn.0 in
       record {
         cack_is = ap before H.expected_is;
-        base_is = ap (λ (p : ℕ). after p o) H.expected_is ∙ after_after s.first at o ∙ ap (after s.first) (sym (base_is_at mpr a));
+        base_is = ap (λ (p : ℕ). after p o) H.expected_is ∙ after_after s.first at o ∙ ap (after s.first) (sym (base_is_at a));
         to_cack = H.missing.below;
-        bits = λ j e. ap (λ (x : ℕ). A (x + j)) (base_is_at mpr a) ∙ ap A (add_assoc at o j) ∙ sym (H.window_is (o + j)) ∙ bit_entry mpr a j e;
-        consistent = all_past r.expected o _ (λ j l e. (past_expected (o + j) (bit_entry mpr a j e), not_half (o + j) (bit_entry mpr a j e)));
+        bits = λ j e. ap (λ (x : ℕ). A (x + j)) (base_is_at a) ∙ ap A (add_assoc at o j) ∙ sym (H.window_is (o + j)) ∙ bit_entry a j e;
+        consistent = all_past r.expected o _ (λ j l e. (past_expected (o + j) (bit_entry a j e), not_half (o + j) (bit_entry a j e)));
       }
 
   -- the block is the one that has the packet's own PSN
-  pub sack_says : (mpr i : ℕ) (a : Arrival) → a.psn.0 ≡ after s.first i → A i ≡ true → Says at (sack_of mpr r a) i
+  pub sack_says : (i : ℕ) (a : Arrival) → a.psn.0 ≡ after s.first i → A i ≡ true → Says at (sack_of r a) i
   unfolding sack_of block block_at
-  sack_says mpr i a is e = elim (dec_lt i at) [
+  sack_says i a is e = elim (dec_lt i at) [
     | yes p ↦ before_here p
     | no p ↦
         let l = r.window in
@@ -236,7 +235,7 @@ module _ {s : Start} {A : ℕ → Bool} {r : Receiver} {at : ℕ} (H : Holds s A
         let small = room_few s.receive_room s.receive_good in
         let d_is : d ≡ i - at = ap₂ distance H.expected_is is ∙ ahead s.first at i (omega arith) (omega (arith, H.room_is)) in
         let o_is : o ≡ 64 * (d / 64) = rw (lt-ltb d (room r) (omega arith)) in
-        in_block (d % 64) (omega arith) (omega (arith, base_is_at mpr a))
+        in_block (d % 64) (omega arith) (omega (arith, base_is_at a))
         (bit_pack (take 64 (drop o l)) (d % 64) ∙ get_or-take 64 (drop o l) (d % 64) false (omega arith) ∙ get_or-drop o l (d % 64) false
         ∙ ap (λ (x : ℕ). get_or l x false) (omega arith) ∙ there)
   ]

@@ -170,15 +170,15 @@ module _ {s : Start} {w : World} (I : Inv s w) where
       let done : After P x (sack x k.cack k.block) = after_unless P x _ _ inv_idle (λ _. after_done P x _ _ (inv_sender y (rw far K))) in
       done.holds
 
-  inv_heard : (limit : ℕ) (n : Note) (q : Reply) → Told s (among w.accepted) (length w.sent) n q → Readable w.low n q
-      → Inv s (with_sender rules w (left w.sending (step limit w.sending (hearing q))))
+  inv_heard : (n : Note) (q : Reply) → Told s (among w.accepted) (length w.sent) n q → Readable w.low n q
+      → Inv s (with_sender rules w (left w.sending (step w.sending (hearing q))))
   unfolding step hearing Told
-  inv_heard limit n (Acks b k) T R = inv_sack n b k T.tells R
-  inv_heard limit n (Nacks k) T R = inv_quiet (left w.sending (nack w.sending k.psn k.reason)) (quiet_nack w.sending k.psn k.reason)
+  inv_heard n (Acks b k) T R = inv_sack n b k T.tells R
+  inv_heard n (Nacks k) T R = inv_quiet (left w.sending (nack w.sending k.psn k.reason)) (quiet_nack w.sending k.psn k.reason)
 
-  inv_hear : (limit : ℕ) (n : Note) → Memᴰ n w.notes → Readable w.low n n.reply → Inv s (rule_hear limit w n)
+  inv_hear : (n : Note) → Memᴰ n w.notes → Readable w.low n n.reply → Inv s (rule_hear w n)
   unfolding rule_hear
-  inv_hear limit n m R = inv_heard limit n n.reply (I.told n m) R
+  inv_hear n m R = inv_heard n n.reply (I.told n m) R
 
   -- a packet goes out: the new one, or one of those sent
   inv_goes : (x : Sender) (l : List ℕ) (packet : ℕ → Packet) (q : ℕ)
@@ -211,9 +211,9 @@ module _ {s : Start} {w : World} (I : Inv s w) where
           let D = I.carried p m in
           record { psn_is = D.psn_is; was_sent = omega (arith, D.was_sent); size_is = D.size_is ∙ sym (older p.number D.was_sent) }
 
-  inv_send : (limit z : ℕ) → Inv s (rule_send limit w z)
+  inv_send : (z : ℕ) → Inv s (rule_send w z)
   unfolding rule_send on_send send send_refusals sent left answered message put with_entries All Past
-  inv_send limit z =
+  inv_send z =
       let x = w.sending in
       let y : Sender = with_entries x (x.entries ++ (new z ∷ [])) in
       let packet : ℕ → Packet = λ p. record { number = length w.sent; psn = p; size = z } in
@@ -227,9 +227,9 @@ module _ {s : Start} {w : World} (I : Inv s w) where
       (record { psn_is = next_number I.keeps; was_sent = omega arith; size_is = sym (size_of_newest z w.sent) })
       (λ i h k. omega arith)
 
-  inv_resend : (limit : ℕ) → Inv s (rule_resend limit w)
+  inv_resend : Inv s (rule_resend w)
   unfolding rule_resend on_resend resend resend_refusals resent left answered message put again Past
-  inv_resend limit =
+  inv_resend =
       let x = w.sending in
       let o : ℕ = nearest x in
       let y : Sender = with_entries x (update (with_mark false) x.entries o) in
@@ -314,20 +314,20 @@ module _ {s : Start} {w : World} (I : Inv s w) where
     a = arrival p f
 
     -- a SACK: the packet is among those that r holds, and its size is counted
-    inv_acked : (mpr : ℕ) (b : Bool) (r : Receiver) (l : List ℕ) → Accepting r l → among l i ≡ true → r.count ≡ w.receiving.count
-        → Inv s (noted (with_receiver rules w (counted r a)) l i a.size (Acks b (sack_of mpr (counted r a) a)))
+    inv_acked : (b : Bool) (r : Receiver) (l : List ℕ) → Accepting r l → among l i ≡ true → r.count ≡ w.receiving.count
+        → Inv s (noted (with_receiver rules w (counted r a)) l i a.size (Acks b (sack_of (counted r a) a)))
     unfolding Told adds arrival counted
-    inv_acked mpr b r l K there same =
+    inv_acked b r l K there same =
         let H = counted_holds K.holds a in
         inv_noted (counted r a) l i a.size _ (record { holds = H; more = K.more; bound = K.bound; once = K.once })
         (ap (λ (x : ℕ). (x + a.size) % 2 ^ 32) (same ∙ I.counted) ∙ mod-add-mod (received w.notes) (2 ^ 32) a.size)
-        (record { tells = sack_tells H mpr a; says = sack_says H mpr i a C.psn_is there })
+        (record { tells = sack_tells H a; says = sack_says H i a C.psn_is there })
 
-    inv_fresh : (mpr : ℕ) → verdict w.receiving a ≡ Fresh
+    inv_fresh : verdict w.receiving a ≡ Fresh
         → let r = counted (accept w.receiving a) a in
-        Inv s (noted (with_receiver rules w r) (i ∷ w.accepted) i a.size (Acks true (sack_of mpr r a)))
+        Inv s (noted (with_receiver rules w r) (i ∷ w.accepted) i a.size (Acks true (sack_of r a)))
     unfolding arrival accept among plus Once
-    inv_fresh mpr e =
+    inv_fresh e =
         let A : ℕ → Bool = among w.accepted in
         let r : Receiver = w.receiving in
         let d : ℕ = distance r.expected p.psn in
@@ -339,7 +339,7 @@ module _ {s : Start} {w : World} (I : Inv s w) where
         let few : k < turn = accept_few I.holds a N.inside in
         let here : w.at + distance r.expected r'.expected ≡ w.at + k =
         ap (λ (x : ℕ). w.at + x) (moved s.first w.at k r.expected r'.expected I.holds.expected_is H.expected_is few) in
-        inv_acked mpr true r' (i ∷ w.accepted)
+        inv_acked true r' (i ∷ w.accepted)
         (record {
           holds = rw here H;
           more = λ j q. plus_more i j A q;
@@ -348,39 +348,39 @@ module _ {s : Start} {w : World} (I : Inv s w) where
         })
         (plus_same i i A refl) refl
 
-    inv_known : (mpr : ℕ) → verdict w.receiving a ≡ Known
-        → let r = counted w.receiving a in Inv s (noted (with_receiver rules w r) w.accepted i a.size (Acks false (sack_of mpr r a)))
+    inv_known : verdict w.receiving a ≡ Known
+        → let r = counted w.receiving a in Inv s (noted (with_receiver rules w r) w.accepted i a.size (Acks false (sack_of r a)))
     unfolding arrival
-    inv_known mpr e = inv_acked mpr false w.receiving w.accepted as_it_was (known_accepted I.holds i a C.psn_is near e) refl
+    inv_known e = inv_acked false w.receiving w.accepted as_it_was (known_accepted I.holds i a C.psn_is near e) refl
 
     names : (v : Verdict) → reason_ok (reason_of v) ≡ true → Names s (length w.sent) i (nack_of v a)
     unfolding nack_of arrival
     names v good = record { psn_is = C.psn_is; was_sent = C.was_sent; reason_good = good }
 
-    inv_judged : (mpr : ℕ) (v : Verdict) → verdict w.receiving a ≡ v
-        → let o = judged mpr w.receiving a v in Inv s (reply (with_receiver rules w (left w.receiving o)) i a.size (message (answered o)))
+    inv_judged : (v : Verdict) → verdict w.receiving a ≡ v
+        → let o = judged w.receiving a v in Inv s (reply (with_receiver rules w (left w.receiving o)) i a.size (message (answered o)))
     unfolding judged acked left answered message accepts reply acceptance noted with_receiver reason_of reason_ok
-    inv_judged mpr Fresh e = inv_fresh mpr e
-    inv_judged mpr Known e = inv_known mpr e
-    inv_judged mpr Beyond e = inv_nacked i _ _ (names Beyond refl)
-    inv_judged mpr NoBuffer e = inv_nacked i _ _ (names NoBuffer refl)
-    inv_judged mpr Trim e = inv_nacked i _ _ (names Trim refl)
-    inv_judged mpr TrimLastHop e = inv_nacked i _ _ (names TrimLastHop refl)
+    inv_judged Fresh e = inv_fresh e
+    inv_judged Known e = inv_known e
+    inv_judged Beyond e = inv_nacked i _ _ (names Beyond refl)
+    inv_judged NoBuffer e = inv_nacked i _ _ (names NoBuffer refl)
+    inv_judged Trim e = inv_nacked i _ _ (names Trim refl)
+    inv_judged TrimLastHop e = inv_nacked i _ _ (names TrimLastHop refl)
 
-    inv_arrive : (mpr : ℕ) → Inv s (rule_arrive mpr w p f)
+    inv_arrive : Inv s (rule_arrive w p f)
     unfolding rule_arrive on_arrive arrive left answered message reply
-    inv_arrive mpr =
+    inv_arrive =
         let P : Outcome Answer Receiver → Type 0 = λ o. Inv s (reply (with_receiver rules w (left w.receiving o)) i a.size (message (answered o))) in
-        through P _ _ (λ _. inv_unread) (λ _. inv_judged mpr (verdict w.receiving (arrival p f)) refl)
+        through P _ _ (λ _. inv_unread) (λ _. inv_judged (verdict w.receiving (arrival p f)) refl)
 
 -- ---- so each event keeps it
 pub inv_next : {s : Start} {w u : World} → Inv s w → Next rules w u → Inv s u
 unfolding rule_send rule_resend rule_timer rule_hear rule_arrive step receiving.step
-inv_next I (sends z a x (limit, given)) = inv_send I limit z
-inv_next I (resends a x (limit, given)) = inv_resend I limit
-inv_next I (timers p a x (limit, given)) = inv_timer I p
-inv_next I (hears n m h a x (limit, given)) = inv_hear I limit n m h
-inv_next I (arrives p m h f a q (mpr, given)) = inv_arrive I p (I.carried p m) h f mpr
+inv_next I (sends z a x given) = inv_send I z
+inv_next I (resends a x given) = inv_resend I
+inv_next I (timers p a x given) = inv_timer I p
+inv_next I (hears n m h a x given) = inv_hear I n m h
+inv_next I (arrives p m h f a q given) = inv_arrive I p (I.carried p m) h f
 inv_next I (beside_sender x e) = absurd e
 inv_next I (beside_receiver q e) = absurd e
 

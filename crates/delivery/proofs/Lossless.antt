@@ -50,7 +50,7 @@ module _ (s : Start) where
   pub lossless_receiver : (l : List ℕ) → (lossless s l).1 ≡ ascending s all l
   unfolding lossless ascending all
   lossless_receiver [] = refl
-  lossless_receiver (z ∷ l) = ap (λ (r : Receiver). left r (arrive 0 r (plain (after s.first (length l)) z))) (lossless_receiver l)
+  lossless_receiver (z ∷ l) = ap (λ (r : Receiver). left r (arrive r (plain (after s.first (length l)) z))) (lossless_receiver l)
 
   in_order : (l : List ℕ) → Sizes l → Holds s (only (length l) all) (lossless s l).1 (length l)
   in_order l good =
@@ -66,7 +66,7 @@ module _ (s : Start) where
     resting : Keeps s (only n all) n (rest s n) n
     resting = rest_keeps s (only n all) n (below_n n)
 
-    send_one : left (rest s n) (send (rest s n).room (rest s n) z) ≡ out
+    send_one : left (rest s n) (send (rest s n) z) ≡ out
     unfolding send send_refusals unless sent left rest
     send_one = rw (sender_used resting, good, lt-leb s.send_room 0 (room_some s.send_room s.send_good))
 
@@ -88,15 +88,15 @@ module _ (s : Start) where
         rw (sack_taken K bound (suc n) k T near bits_near) (keeps_rests L (omega (arith, L.next_is)))
 
     one_more : (x : Sender) (r : Receiver) → x ≡ rest s n → Holds s (only n all) r n
-        → Holds s (only (suc n) all) (left r (arrive 0 r (plain (after s.first n) z))) (suc n)
-        → heard (left x (send x.room x z)) (message (answered (arrive 0 r (plain (after s.first n) z)))) ≡ rest s (suc n)
+        → Holds s (only (suc n) all) (left r (arrive r (plain (after s.first n) z))) (suc n)
+        → heard (left x (send x z)) (message (answered (arrive r (plain (after s.first n) z)))) ≡ rest s (suc n)
     unfolding left heard hearing step message answered accepts judged acked
     one_more x r rests H G =
         let a : Arrival = plain (after s.first n) z in
-        let met = plain_arrives H n z good (only_out n all n (omega arith)) (omega (arith, room_some s.receive_room s.receive_good)) 0 in
+        let met = plain_arrives H n z good (only_out n all n (omega arith)) (omega (arith, room_some s.receive_room s.receive_good)) in
         let r' : Receiver = counted (accept r a) a in
         let F : Holds s (only (suc n) all) r' (suc n) = rw met at G in
-        rw (rests, send_one, met) (sack_one (sack_of 0 r' a) (sack_tells F 0 a))
+        rw (rests, send_one, met) (sack_one (sack_of r' a) (sack_tells F a))
 
   pub lossless_sender : (l : List ℕ) → Sizes l → (lossless s l).0 ≡ rest s (length l)
   unfolding lossless All

@@ -5,7 +5,6 @@ use mathlib.Core.Path.{◌≡◌, refl, sym, ap, ◌∙◌}
 use mathlib.Core.Bool.{Bool, true, false, cond, false≢true}
 use mathlib.Core.List.{map}
 use mathlib.Core.Logic.{◌≢◌}
-use Prim.Native.Nat.{ℕ}
 use native.Mathlib.Omega.{arith}
 use lib.Dec.{leb}
 use lib.ListN.{length, get_or}
@@ -53,8 +52,8 @@ never_beyond s w run p m near f e =
 taken : {s : Start} {w : World} → Inv s w → (n : Note) (q : Reply) → Told s (among w.accepted) (length w.sent) n q
     → Readable w.low n q → Taken w.sending q
 unfolding Told Readable step hearing
-taken I n (Acks b k) T R limit = (_, _, sack_taken I.keeps I.bound n.here k T.tells R.0 R.1)
-taken I n (Nacks k) T R limit = nack_taken I.keeps n.about k.psn k.reason T.psn_is T.was_sent R T.reason_good
+taken I n (Acks b k) T R = (_, _, sack_taken I.keeps I.bound n.here k T.tells R.0 R.1)
+taken I n (Nacks k) T R = nack_taken I.keeps n.about k.psn k.reason T.psn_is T.was_sent R T.reason_good
 
 pub never_refused : NeverRefused
 never_refused s w run n m R = let I = invariant run in taken I n n.reply (I.told n m) R
@@ -67,14 +66,14 @@ either_not : (b : Bool) (o q : Outcome Answer Sender) → Not17 o → Not17 q �
 either_not true o q h k = h
 either_not false o q h k = k
 
-heard : {s : Start} {w : World} → Inv s w → (limit : ℕ) (x : Sender) (n : Note) (q : Reply) → Told s (among w.accepted) (length w.sent) n q
-    → Not17 (step limit x (hearing q))
+heard : {s : Start} {w : World} → Inv s w → (x : Sender) (n : Note) (q : Reply) → Told s (among w.accepted) (length w.sent) n q
+    → Not17 (step x (hearing q))
 unfolding Told step hearing sack sack_refusals acknowledged report nack nack_refusals nacked mark answered paper Each
-heard I limit x n (Acks b k) T =
+heard I x n (Acks b k) T =
     through_each Not17 (sack_refusals x k.cack k.block) _
     (λ _ e. omega arith, (λ _ e. omega arith, (λ _ e. omega arith, (λ c. absurd (false≢true (sym T.tells.consistent ∙ c)), (λ _ e. omega arith, tt)))))
     (λ e. omega arith)
-heard I limit x n (Nacks k) T =
+heard I x n (Nacks k) T =
     through_each Not17 (nack_refusals x k.psn k.reason) _
     (λ _ e. omega arith, (λ _ e. omega arith, (λ _ e. omega arith, (λ _ e. omega arith, tt))))
     (either_not (leb k.reason 4) _ _
@@ -82,6 +81,6 @@ heard I limit x n (Nacks k) T =
 
 pub never_contradicts : NeverContradicts
 unfolding paper
-never_contradicts s w run m there a x (limit, given) e =
+never_contradicts s w run m there a x given e =
     let I = invariant run in
-    heard I limit w.sending m m.reply (I.told m there) (ap (λ (a : Answer). (paper a).number) e)
+    heard I w.sending m m.reply (I.told m there) (ap (λ (a : Answer). (paper a).number) e)

@@ -55,11 +55,11 @@ module _ {s : Start} {A : ℕ → Bool} {r : Receiver} {at : ℕ} (H : Holds s A
       let few = room_few s.receive_room s.receive_good in
       rw (lt-leb half d (omega arith), H.window_is d ∙ ap A (omega arith) ∙ new, lt-leb (room r) d (omega (arith, H.room_is)))
 
-  pub plain_arrives : (mpr : ℕ) → arrive mpr r (plain (after s.first i) z) ≡ judged mpr r (plain (after s.first i) z) Fresh
+  pub plain_arrives : arrive r (plain (after s.first i) z) ≡ judged r (plain (after s.first i) z) Fresh
   unfolding arrive arrive_refusals unless plain bit_at flags_ok
-  plain_arrives mpr =
+  plain_arrives =
       rw (receiver_used H, lt-ltb (after s.first i) turn (after_lt s.first i), good)
-      (ap (judged mpr r (plain (after s.first i) z)) plain_fresh)
+      (ap (judged r (plain (after s.first i) z)) plain_fresh)
 
   plain_holds : let a = plain (after s.first i) z in (b : ℕ) × Holds s (plus i A) (counted (accept r a) a) b
   unfolding plain
@@ -78,14 +78,14 @@ module _ (s : Start) (A : ℕ → Bool) (reach : (n b : ℕ) → A n ≡ true �
     pub holds : Holds s (only (length l) A) r at
 
   came_next : (z : ℕ) (l : List ℕ) → size_ok z ≡ true → (r : Receiver) → Came l r → (t : Bool) → A (length l) ≡ t
-      → Came (z ∷ l) (cond t (left r (arrive 0 r (plain (after s.first (length l)) z))) r)
+      → Came (z ∷ l) (cond t (left r (arrive r (plain (after s.first (length l)) z))) r)
   unfolding left judged acked
   came_next z l good r U true a =
       let n : ℕ = length l in
       let new : only n A n ≡ false = only_out n A n (omega arith) in
       let near : n < U.at + s.receive_room = reach n U.at a U.holds.missing.first in
       let J = plain_holds U.holds n z good new near in
-      rw (plain_arrives U.holds n z good new near 0) (record { at = J.0; holds = holds_same (λ j. only_plus n A j a) J.1 })
+      rw (plain_arrives U.holds n z good new near) (record { at = J.0; holds = holds_same (λ j. only_plus n A j a) J.1 })
   came_next z l good r U false a = record { at = U.at; holds = holds_same (λ j. only_skip (length l) A j a) U.holds }
 
   pub came : (l : List ℕ) → Sizes l → Came l (ascending s A l)

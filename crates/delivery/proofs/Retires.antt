@@ -83,18 +83,18 @@ grows_quiet w x Q = grows_alike w _ (stays w.low w.sending.place x.place Q.place
 grows_idle : (w : World) → Grows w (with_sender rules w w.sending)
 grows_idle w = grows_quiet w w.sending (quiet_self w.sending)
 
-grows_send : (limit : ℕ) (w : World) (z : ℕ) → Grows w (rule_send limit w z)
+grows_send : (w : World) (z : ℕ) → Grows w (rule_send w z)
 unfolding rule_send on_send send send_refusals sent left answered message put with_sender with_entries
-grows_send limit w z =
+grows_send w z =
     let x = w.sending in
     let packet : ℕ → Packet = λ p. record { number = length w.sent; psn = p; size = z } in
     let P : Outcome Answer Sender → Type 0 = λ o. Grows w (put (with_sender rules w (left x o)) (z ∷ w.sent) packet (message (answered o))) in
     through P _ _ (λ _. grows_idle w) λ _.
     grows_alike w _ (stays w.low x.place x.place refl) (omega arith) (retired_new x.entries z)
 
-grows_resend : (limit : ℕ) (w : World) → Grows w (rule_resend limit w)
+grows_resend : (w : World) → Grows w (rule_resend w)
 unfolding rule_resend on_resend resend resend_refusals resent left answered message put with_sender with_entries
-grows_resend limit w =
+grows_resend w =
     let x = w.sending in
     let Q = quiet_update x false (nearest x) in
     let P : Outcome Answer Sender → Type 0 = λ o. Grows w (put (with_sender rules w (left x o)) w.sent (again rules w) (message (answered o))) in
@@ -170,26 +170,25 @@ module _ {s : Start} {w : World} (I : Inv s w) (here : ℕ) (k : Sack) (T : Tell
   ]
 
 module _ {s : Start} {w : World} (I : Inv s w) where
-  grows_heard : (limit : ℕ) (n : Note) (q : Reply) → Told s (among w.accepted) (length w.sent) n q → Readable w.low n q
-      → Grows w (with_sender rules w (left w.sending (step limit w.sending (hearing q))))
+  grows_heard : (n : Note) (q : Reply) → Told s (among w.accepted) (length w.sent) n q → Readable w.low n q
+      → Grows w (with_sender rules w (left w.sending (step w.sending (hearing q))))
   unfolding step hearing Told Readable left
-  grows_heard limit n (Acks b k) T R =
+  grows_heard n (Acks b k) T R =
       rw (sack_taken I.keeps I.bound n.here k T.tells R.0 R.1) (grows_sack I n.here k T.tells R.0 R.1)
-  grows_heard limit n (Nacks k) T R = grows_quiet w _ (quiet_nack w.sending k.psn k.reason)
+  grows_heard n (Nacks k) T R = grows_quiet w _ (quiet_nack w.sending k.psn k.reason)
 
-  heard_retires : (limit : ℕ) (n : Note) (b : Bool) (k : Sack) → Told s (among w.accepted) (length w.sent) n (Acks b k)
-      → Readable w.low n (Acks b k)
-      → Retired (with_sender rules w (left w.sending (step limit w.sending (hearing (Acks b k))))) n.about
+  heard_retires : (n : Note) (b : Bool) (k : Sack) → Told s (among w.accepted) (length w.sent) n (Acks b k) → Readable w.low n (Acks b k)
+      → Retired (with_sender rules w (left w.sending (step w.sending (hearing (Acks b k))))) n.about
   unfolding step hearing Told Readable left
-  heard_retires limit n b k T R =
+  heard_retires n b k T R =
       rw (sack_taken I.keeps I.bound n.here k T.tells R.0 R.1) (says_retires I n.here k T.tells R.0 R.1 n.about T.says)
 
   pub grows_next : {u : World} → Next rules w u → Grows w u
   unfolding rule_send rule_resend rule_timer on_arrive step
-  grows_next (sends z a x (limit, given)) = grows_send limit w z
-  grows_next (resends a x (limit, given)) = grows_resend limit w
-  grows_next (timers p a x (limit, given)) = grows_timer w p
-  grows_next (hears n there h a x (limit, given)) = grows_heard limit n n.reply (I.told n there) h
+  grows_next (sends z a x given) = grows_send w z
+  grows_next (resends a x given) = grows_resend w
+  grows_next (timers p a x given) = grows_timer w p
+  grows_next (hears n there h a x given) = grows_heard n n.reply (I.told n there) h
   grows_next (arrives p there near f a r g) = grows_reply w r p.number _ (message a)
   grows_next (beside_sender x e) = absurd e
   grows_next (beside_receiver r e) = absurd e
@@ -199,12 +198,12 @@ module _ {s : Start} {w : World} (I : Inv s w) where
   next_retires (sends z a x g) n i S h = absurd h
   next_retires (resends a x g) n i S h = absurd h
   next_retires (timers p a x g) n i S h = absurd h
-  next_retires (hears m there r a x (limit, given)) n i S h =
+  next_retires (hears m there r a x given) n i S h =
       let is : m.reply ≡ Acks S.accepting S.sack = ap (λ (y : Note). y.reply) h ∙ S.reply_is in
       let about : m.about ≡ i = ap (λ (y : Note). y.about) h ∙ S.about_is in
       let T = subst (Told s (among w.accepted) (length w.sent) m) is (I.told m there) in
       let R = subst (Readable w.low m) is r in
-      rw is (subst (Retired _) about (heard_retires limit m S.accepting S.sack T R))
+      rw is (subst (Retired _) about (heard_retires m S.accepting S.sack T R))
   next_retires (arrives p there near f a r g) n i S h = absurd h
   next_retires (beside_sender x g) n i S h = absurd h
   next_retires (beside_receiver r g) n i S h = absurd h

@@ -25,7 +25,7 @@ ascending_same : (s : Start) (A B : ℕ → Bool) (l : List ℕ) → ((j : ℕ) 
 unfolding ascending
 ascending_same s A B [] h = refl
 ascending_same s A B (z ∷ l) h =
-    ap₂ (λ (b : Bool) (r : Receiver). cond b (left r (arrive 0 r (plain (after s.first (length l)) z))) r)
+    ap₂ (λ (b : Bool) (r : Receiver). cond b (left r (arrive r (plain (after s.first (length l)) z))) r)
     (h (length l) (omega arith)) (ascending_same s A B l (λ j p. h j (omega arith)))
 
 module _ {s : Start} {w : World} (I : Inv s w) where

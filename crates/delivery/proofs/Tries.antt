@@ -1,5 +1,5 @@
 -- The packet at place + 1 is tried again: its timer marks it, the mark stays until a resend takes it or the place moves, and the resend
--- hands that packet out, with any limit but 0. Assumes nothing.
+-- hands that packet out. Assumes nothing.
 use mathlib.Core.Path.{◌≡◌, refl}
 use mathlib.Core.Bool.{Bool, true, false, cond, false≢true}
 use mathlib.Core.List.{List, [], ◌∷◌, ◌++◌, map}
@@ -8,13 +8,12 @@ use Prim.Native.Nat.{ℕ, zero, suc, ◌+◌, ◌<◌}
 use native.Mathlib.Omega.{arith}
 use lib.Dec.{leb}
 use lib.ListN.{length, get_or, drop}
-use borrow.Author.Tests.{not-false, leb-false, lt-ltb, lt-leb}
+use borrow.Author.Tests.{not-false, lt-ltb, lt-leb}
 use Rattle.psn.specs.declared.Psn.{Psn}
 use Rattle.psn.proofs.Circle.{after_lt, distance_same}
 use Rattle.rules.specs.Numbers.{turn, psn}
 use Rattle.lists.specs.Lists.{lead, update}
 use Rattle.promise.specs.Outcome.{Outcome, unless, left}
-use Rattle.promise.proofs.Refusing.{Past}
 use Rattle.promise.proofs.Outcomes.{After, after_unless, after_cond, after_done}
 use Rattle.rules.specs.Paper.{answered}
 use Rattle.rules.specs.Receiver.{Receiver}
@@ -67,7 +66,7 @@ pub marks : Marks
 unfolding Times with_sender step
 marks s w u run some (sends z a x g) h = absurd h
 marks s w u run some (resends a x g) h = absurd h
-marks s w u run some (timers p a x (limit, given)) h = rw h (timer_marks (invariant run) some)
+marks s w u run some (timers p a x given) h = rw h (timer_marks (invariant run) some)
 marks s w u run some (hears m there r a x g) h = absurd h
 marks s w u run some (arrives p there near f a r g) h = absurd h
 marks s w u run some (beside_sender x g) h = absurd h
@@ -79,7 +78,7 @@ unfolding lead
 first_marked [] h = absurd (false≢true h)
 first_marked (e ∷ l) h = (rw h, omega arith)
 
-module _ {s : Start} {w : World} (I : Inv s w) (m : marked_at w.sending 0 ≡ true) (limit : ℕ) (some : 0 < limit) where
+module _ {s : Start} {w : World} (I : Inv s w) (m : marked_at w.sending 0 ≡ true) where
   abbrev x : Sender
   x = w.sending
 
@@ -87,22 +86,18 @@ module _ {s : Start} {w : World} (I : Inv s w) (m : marked_at w.sending 0 ≡ tr
   unfolding nearest
   nearest_is = (first_marked x.entries m).0
 
-  resends_first : resend limit x ≡ resent x
+  resends_first : resend x ≡ resent x
   unfolding resend resend_refusals unless
-  resends_first = rw (
-    sender_used I.keeps,
-    lt-leb (outstanding x) (nearest x) (omega (arith, nearest_is, (first_marked x.entries m).1)),
-    lt-leb limit (nearest x) (omega (arith, nearest_is)),
-  )
+  resends_first = rw (sender_used I.keeps, lt-leb (outstanding x) (nearest x) (omega (arith, nearest_is, (first_marked x.entries m).1)))
 
-  handed_out : let o = resend limit x in (p : Packet) × (p.number ≡ w.low) × ((on_resend rules w (answered o) (left x o)).wire ≡ p ∷ w.wire)
+  handed_out : let o = resend x in (p : Packet) × (p.number ≡ w.low) × ((on_resend rules w (answered o) (left x o)).wire ≡ p ∷ w.wire)
   unfolding on_resend again resent message answered put with_sender
   handed_out = rw (resends_first, nearest_is) (_, stays w.low (nth x 0) (nth x 0) refl, refl)
 
 pub hands_out : HandsOut
 unfolding Resends step
 hands_out s w u run m (sends z a x g) h = absurd h
-hands_out s w u run m (resends a x (limit, given)) h = handed_out (invariant run) m limit h
+hands_out s w u run m (resends a x given) h = handed_out (invariant run) m
 hands_out s w u run m (timers p a x g) h = absurd h
 hands_out s w u run m (hears n there r a x g) h = absurd h
 hands_out s w u run m (arrives p there near f a r g) h = absurd h
@@ -174,34 +169,27 @@ module _ {s : Start} {w : World} (I : Inv s w) (m : marked_at w.sending 0 ≡ tr
       let y = w.sending in
       after_unless Marked y _ _ m (λ _. after_cond Marked y (leb reason 4) _ _ (λ _. mark_marked answer.Marked p.0) (λ _. after_done Marked y _ _ m))
 
-  send_marked : (limit z : ℕ) → After Marked w.sending (send limit w.sending z)
+  send_marked : (z : ℕ) → After Marked w.sending (send w.sending z)
   unfolding send sent with_entries
-  send_marked limit z =
+  send_marked z =
       let y = w.sending in after_unless Marked y _ _ m (λ _. after_done Marked y _ _ (first_more y.entries z m))
 
-  -- a resend with limit 0 is refused, so it takes no mark
-  resend_marked : After Marked w.sending (resend 0 w.sending)
-  unfolding resend resend_refusals Past
-  resend_marked =
-      let y = w.sending in after_unless Marked y _ _ m (λ past. absurd (omega (arith, leb-false 0 (nearest y) past.1.1.0)))
-
-  heard_stays : (limit : ℕ) (n : Note) (q : Reply) → Told s (among w.accepted) (length w.sent) n q → Readable w.low n q
-      → Stays w (with_sender rules w (left w.sending (step limit w.sending (hearing q))))
+  heard_stays : (n : Note) (q : Reply) → Told s (among w.accepted) (length w.sent) n q → Readable w.low n q
+      → Stays w (with_sender rules w (left w.sending (step w.sending (hearing q))))
   unfolding step hearing Told Readable left with_sender after_sack settle
-  heard_stays limit n (Acks b k) T R =
+  heard_stays n (Acks b k) T R =
       let y = w.sending in
       let far = place_moves I.keeps n.here k T.tells R.0 R.1 in
       rw (sack_taken I.keeps I.bound n.here k T.tells R.0 R.1, far)
       (elim (first_retire (named y k.cack.0 k.block) y.entries m) [ inl h ↦ inl (omega arith) | inr h ↦ inr h ])
-  heard_stays limit n (Nacks k) T R = inr (nack_marked k.psn k.reason).holds
+  heard_stays n (Nacks k) T R = inr (nack_marked k.psn k.reason).holds
 
   pub mark_next : {u : World} (e : Next rules w u) → Resends e ⊎ ((w.low < u.low) ⊎ (marked_at u.sending 0 ≡ true))
-  unfolding Resends on_send on_resend on_arrive step
-  mark_next (sends z a x (limit, given)) = inr (put_stays w _ (z ∷ w.sent) _ (message a) (with_sender_stays _ (send_marked limit z).holds))
-  mark_next (resends a x (zero, given)) = inr (put_stays w _ w.sent _ (message a) (with_sender_stays _ resend_marked.holds))
-  mark_next (resends a x (suc n, g)) = inl (omega arith)
-  mark_next (timers p a x (limit, given)) = inr (with_sender_stays _ (timer_marked (psn p)).holds)
-  mark_next (hears n there h a x (limit, given)) = inr (heard_stays limit n n.reply (I.told n there) h)
+  unfolding Resends on_send on_arrive step
+  mark_next (sends z a x given) = inr (put_stays w _ (z ∷ w.sent) _ (message a) (with_sender_stays _ (send_marked z).holds))
+  mark_next (resends a x g) = inl tt
+  mark_next (timers p a x given) = inr (with_sender_stays _ (timer_marked (psn p)).holds)
+  mark_next (hears n there h a x given) = inr (heard_stays n n.reply (I.told n there) h)
   mark_next (arrives p there near f a r g) = inr (reply_stays w r p.number _ (message a) m)
   mark_next (beside_sender x g) = absurd g
   mark_next (beside_receiver r g) = absurd g

@@ -1,9 +1,8 @@
 -- That demand 3 comes to its end: what each event does for a packet that is not retired yet, and that all that is sent is retired where the
 -- host and the network do their part.
-use Rattle.std.specs.Prelude.{◌≡◌, Bool, true, not, ◌&&◌, ◌∷◌, ◌⊎◌, ℕ, suc, ◌+◌, ◌≤◌, ◌<◌, length}
+use Rattle.std.specs.Prelude.{◌≡◌, Bool, true, false, not, ◌&&◌, ◌∷◌, map, ◌⊎◌, ℕ, suc, ◌+◌, ◌≤◌, ◌<◌, length, get_or}
 use Rattle.rules.specs.Numbers.{after, flags_ok, trimmed, trimmed_last_hop, no_buffer}
-use Rattle.rules.specs.Sender.{outstanding}
-pub use Rattle.rules.specs.Dynamic.{is_marked, marked_at}
+use Rattle.rules.specs.Sender.{Entry, Sender, outstanding}
 use Rattle.rules.specs.declared.Sack.{Sack}
 use Rattle.delivery.specs.Wire.{Packet, Fate, Acks, Note}
 use Rattle.delivery.specs.Network.{Start, Next, sends, resends, timers, hears, arrives, beside_sender, beside_receiver}
@@ -14,6 +13,13 @@ use Rattle.delivery.specs.Promise.{lossless, compared, retired_at}
 pub data Retired (w : World) (i : ℕ) : Type 0 where
   behind : i < w.low → Retired w i
   ahead : (k : ℕ) → i ≡ w.low + k → retired_at w.sending k ≡ true → Retired w i
+
+-- whether entry k of the sender is marked for resending
+abbrev pub is_marked : Entry → Bool
+is_marked e = e.marked
+
+abbrev pub marked_at : Sender → ℕ → Bool
+marked_at x k = get_or (map is_marked x.entries) k false
 
 -- ---- what an event is
 -- a fate that leaves the packet whole: flags that 01 allows, untrimmed, and with a buffer
@@ -50,10 +56,10 @@ Times (arrives p there near f a r g) = ⊥
 Times (beside_sender x g) = ⊥
 Times (beside_receiver r g) = ⊥
 
--- the sender is asked to resend, with a limit that lets one packet be outstanding
+-- the sender is asked to resend
 unfoldable pub Resends : {w u : World} → Next rules w u → Type 0
 Resends (sends z a x g) = ⊥
-Resends (resends a x g) = 0 < g.0
+Resends (resends a x g) = Unit {0}
 Resends (timers p a x g) = ⊥
 Resends (hears m there h a x g) = ⊥
 Resends (arrives p there near f a r g) = ⊥
@@ -85,7 +91,7 @@ Marks =
     (s : Start) (w u : World) → Run (begin s) w → 0 < outstanding w.sending → (e : Next rules w u) → Times e
     → marked_at u.sending 0 ≡ true
 
--- and once it is marked, it is what the next resend hands out, however far the MPR has fallen (02, No. 7)
+-- and once it is marked, it is what the next resend hands out
 abbrev pub HandsOut : Type 0
 HandsOut =
     (s : Start) (w u : World) → Run (begin s) w → marked_at w.sending 0 ≡ true → (e : Next rules w u) → Resends e

@@ -33,28 +33,26 @@ Once (i ∷ l) = (among l i ≡ false) × Once l
 unfoldable pub plain : ℕ → ℕ → Arrival
 plain p z = record { psn = psn p; size = z; flags = 0; entropy = 0 }
 
--- the receiver after those of the packets sent that are in A came "once each in ascending order"; its record does not go by the MPR of its
--- SACKs, which is 0 here
+-- the receiver after those of the packets sent that are in A came "once each in ascending order"
 unfoldable pub ascending : Start → (ℕ → Bool) → List ℕ → Receiver
 ascending s A [] = receiver.fresh s.receive_room s.first
 ascending s A (z ∷ l) =
     let r = ascending s A l in
-    cond (A (length l)) (left r (arrive 0 r (plain (after s.first (length l)) z))) r
+    cond (A (length l)) (left r (arrive r (plain (after s.first (length l)) z))) r
 
 -- the sender after a message reaches it
 unfoldable pub heard : Sender → Message → Sender
 heard x Silent = x
 heard x (Goes p) = x
-heard x (Replies r) = left x (step x.room x (hearing r))
+heard x (Replies r) = left x (step x (hearing r))
 
--- "a run of the same packets, one at a time and without loss": a packet is sent, arrives, and its reply is heard. The sender may use its whole
--- room, as where the MPR is not dynamic
+-- "a run of the same packets, one at a time and without loss": a packet is sent, arrives, and its reply is heard
 unfoldable pub lossless : Start → List ℕ → Sender × Receiver
 lossless s [] = (sender.fresh s.send_room s.first, receiver.fresh s.receive_room s.first)
 lossless s (z ∷ l) =
     let y = lossless s l in
-    let o = arrive 0 y.1 (plain (after s.first (length l)) z) in
-    (heard (left y.0 (send y.0.room y.0 z)) (message (answered o)), left y.1 o)
+    let o = arrive y.1 (plain (after s.first (length l)) z) in
+    (heard (left y.0 (send y.0 z)) (message (answered o)), left y.1 o)
 
 -- ---- 02, No. 4: "Demand 3 no longer compares the count; instead the count is the sum over the history of those sizes, modulo 2 to the 32"
 -- what is compared of a receiver's record: the expected PSN, and the window, whose length is the room

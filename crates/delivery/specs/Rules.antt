@@ -1,7 +1,5 @@
--- The rules' own two sides: an event brings their answer and leaves their next record, and nothing else happens. 02, No. 7: each send and
--- resend is given any limit, and each SACK carries any MPR; so the runs are those with the feature on and off, whatever the host sets and
--- whenever, and their records have no MPR.
-use Rattle.std.specs.Prelude.{◌≡◌, ℕ}
+-- The rules' own two sides: an event brings their answer and leaves their next record, and nothing else happens.
+use Rattle.std.specs.Prelude.{◌≡◌}
 use Rattle.promise.specs.Outcome.{Outcome, left}
 use Rattle.rules.specs.Paper.{answered}
 use Rattle.rules.specs.Receiver.{Receiver}
@@ -24,14 +22,14 @@ rules = record {
     State = Sender;
     place = λ x. x.place;
     Begins = λ o x. x ≡ sender.fresh o.room o.first.0;
-    Steps = λ x e a y. (limit : ℕ) × Gives x (sending.step limit x e) a y;
+    Steps = λ x e a y. Gives x (sending.step x e) a y;
     Beside = λ x y. ⊥;
   };
   receiver = record {
     State = Receiver;
     place = λ r. r.expected;
     Begins = λ o r. r ≡ receiver.fresh o.room o.first.0;
-    Steps = λ r e a q. (mpr : ℕ) × Gives r (receiving.step mpr r e) a q;
+    Steps = λ r e a q. Gives r (receiving.step r e) a q;
     Beside = λ r q. ⊥;
   };
 }

@@ -1,5 +1,5 @@
 -- That demand 3 says something: what a run never meets, and that every run can be brought to its end.
-use Rattle.std.specs.Prelude.{◌≡◌, ℕ}
+use Rattle.std.specs.Prelude.{◌≡◌}
 use mathlib.Core.List.{Memᴰ}
 use Rattle.promise.specs.Outcome.{Done}
 use Rattle.rules.specs.Receiver.{verdict}
@@ -18,9 +18,9 @@ NeverBeyond =
     (s : Start) (w : World) → Run (begin s) w → (p : Packet) → Memᴰ p w.wire → Near p.number w.at → (f : Fate)
     → verdict w.receiving (arrival p f) ≡ Beyond → ⊥
 
--- a reply is done, and not refused, whatever limit stands
+-- a reply is done, and not refused
 abbrev pub Taken : Sender → Reply → Type 0
-Taken x r = (limit : ℕ) → (y : Sender) × (a : Answer) × (step limit x (hearing r) ≡ Done y a)
+Taken x r = (y : Sender) × (a : Answer) × (step x (hearing r) ≡ Done y a)
 
 -- no reply of a run is refused
 abbrev pub NeverRefused : Type 0

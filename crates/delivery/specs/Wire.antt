@@ -2,7 +2,6 @@
 use Rattle.std.specs.Prelude.{◌≡◌, Bool, true, false, cond, ◌||◌, ℕ, ◌+◌, ◌<◌}
 use Rattle.word.specs.Word.{bit_at}
 use Rattle.rules.specs.Numbers.{half, after, distance, psn, trimmed, trimmed_last_hop}
-use Rattle.rules.specs.declared.Carried.TheVariants.{Value}
 use Rattle.rules.specs.declared.Sending.{Sending}
 use Rattle.rules.specs.declared.Sending.TheVariants as sending
 use Rattle.rules.specs.declared.Arrival.{Arrival}
@@ -39,9 +38,9 @@ pub data Reply : Type 0 where
   Acks : Bool → Sack → Reply
   Nacks : Nack → Reply
 
--- the reply as the sender's event: a SACK with the MPR that it carries (02, No. 7)
+-- the reply as the sender's event
 unfoldable pub hearing : Reply → Sending
-hearing (Acks b k) = sending.Sack k.cack k.block (Value k.mpr)
+hearing (Acks b k) = sending.Sack k.cack k.block
 hearing (Nacks k) = sending.Nack k.psn k.reason
 
 -- what an answer puts on the wire: nothing; a packet with this PSN; a reply
@@ -69,7 +68,6 @@ message (answer.Retired k) = Silent
 message (answer.Marked n) = Silent
 message (answer.Expired n) = Silent
 message (answer.Resent p) = Goes p.0
-message answer.MprSet = Silent
 
 -- a reply on the wire, with the numbers of the receiver's expected PSN when it was made and of the packet that it answers, and the size
 -- that this packet came with

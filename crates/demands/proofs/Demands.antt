@@ -16,7 +16,6 @@ use Rattle.rules.proofs.Numbered.{event_splits, number_first, numbered_refuses, 
 use Rattle.rules.proofs.Settled.{answer_is_rule}
 use Rattle.rules.proofs.Apart.{reads_apart, writes_apart}
 use Rattle.rules.proofs.Starred.{starred}
-use Rattle.rules.proofs.Dynamic.{dynamic}
 use Rattle.connection.specs.declared.Connection.{Connection}
 use Rattle.table.specs.Slots.{On, meaning}
 use Rattle.table.proofs.Slots.{reached_sound, empties}
@@ -64,7 +63,6 @@ demand_2 = record {
   writes = λ {slot} {e} {before} {r} m. (writes_apart r (write e (length before)) m.answer_is, m.bytes_are);
   prints = writes_replay;
   bench = starred;
-  dynamic = dynamic;
   written_read = λ {slot} {e} {before} {after} {n} x w l m h. written_read slot e before after (Length n) n x m refl w l h;
   read_written = λ log place slot e kind next {before} {r} {after} b h l m.
       read_written log place slot e kind next b (Record slot e kind next) before after r h refl m l;

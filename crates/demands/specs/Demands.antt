@@ -12,7 +12,6 @@ use Rattle.rules.specs.Log.{read, write, written}
 use Rattle.rules.specs.Refusals.{event_refusals, read_refusals, write_refusals}
 use Rattle.rules.specs.Replay.{replay}
 use Rattle.rules.specs.Bench.{Starred}
-use Rattle.rules.specs.Dynamic.{Dynamic}
 use Rattle.rules.specs.declared.Answer.{Answer}
 use Rattle.rules.specs.declared.Event.{Event}
 use Rattle.rules.specs.declared.Read.{Read}
@@ -64,8 +63,6 @@ pub record Demand2 : Type 0 where
   pub prints : (log text : List ℕ) → piece.Writes log begin head_text text → text ≡ text_of (replay log)
   -- the rules themselves give what the customer worked by hand
   pub bench : Starred
-  -- 02, No. 7, of every connection: nothing goes past place + MPR, 18 exactly when it says, and with the feature off all is as before
-  pub dynamic : Dynamic
   -- "A log record written is read back as the same event", from a buffer that is no longer than a log
   pub written_read : {slot : ℕ} {e : Event} {before after : List ℕ} {n : ℕ} (x : Read) → Wide e → length before ≤ longest_log
       → Writes slot e before (Length n) after → Reads after 0 x → x ≡ Record slot e (kind_of e) n

@@ -1,20 +1,19 @@
 -- The fields of a kind are at most as many as the code has room for, by a test of all layouts, and padded they are a layout still. And an
 -- event has as many fields as its kind. Assumes nothing.
 use mathlib.Core.Path.{◌≡◌, refl, ap, ◌∙◌}
-use mathlib.Core.Bool.{Bool, true, false, cond}
+use mathlib.Core.Bool.{Bool}
 use mathlib.Core.List.{List, []}
 use Prim.Native.Nat.{ℕ, ◌-◌, ◌%◌, ◌≤◌}
 use native.Mathlib.Omega.{arith}
 use borrow.Author.Tests.{leb-true}
 use lib.Dec.{leb}
-use lib.ListN.{length, length-map}
+use lib.ListN.{length, get_or, length-map}
 use Rattle.lists.specs.Lists.{sum}
 use Rattle.lists.proofs.Every.{every, every_at}
 use Rattle.fields.specs.Fields.{Layout}
 use Rattle.fields.proofs.Padding.{sum_padded}
-use Rattle.rules.specs.Kinds.{start_kind, sack_kind, kind_of, sack_field, fields_of, layouts, layout, width, widths}
+use Rattle.rules.specs.Kinds.{kind_of, fields_of, layouts, layout, width, widths}
 use Rattle.rules.specs.declared.Cell.{Cell}
-use Rattle.rules.specs.declared.Carried.TheVariants as carried
 use Rattle.rules.specs.declared.Sending.TheVariants as sending
 use Rattle.rules.specs.declared.Use.TheVariants as use-of
 use Rattle.rules.specs.declared.Event.{Event}
@@ -49,18 +48,12 @@ padded_laid k =
 
 -- ---- an event's fields
 pub length_fields : (e : Event) → length (fields_of e) ≡ length (widths (kind_of e))
-unfolding kind_of start_kind sack_kind fields_of sack_field widths layout layouts
-length_fields (event.Start s) = go s.options.dynamic
-  where
-    go : (b : Bool) → 4 ≡ length (widths (cond b 9 1))
-    go true = refl
-    go false = refl
+unfolding kind_of fields_of widths layout layouts
+length_fields (event.Start s) = refl
 length_fields (event.Use use-of.Close) = refl
 length_fields (event.Use (use-of.Sends (sending.Send z))) = refl
 length_fields (event.Use (use-of.Receives a)) = refl
-length_fields (event.Use (use-of.Sends (sending.Sack c b carried.Unwritten))) = refl
-length_fields (event.Use (use-of.Sends (sending.Sack c b (carried.Value v)))) = refl
+length_fields (event.Use (use-of.Sends (sending.Sack c b))) = refl
 length_fields (event.Use (use-of.Sends (sending.Nack p n))) = refl
 length_fields (event.Use (use-of.Sends (sending.Timer p))) = refl
 length_fields (event.Use (use-of.Sends sending.Resend)) = refl
-length_fields (event.Use (use-of.SetMpr v)) = refl

@@ -1,13 +1,11 @@
 // What goes by kind in the event log: an event's kind and fields, how wide they are, and the event that they make. Nothing else does.
-ghost use Rattle.std.specs.Prelude.{◌≡◌, true, get_or};
-ghost use Rattle.rules.specs.Kinds.{kind_of, start_kind, sack_kind, start_of, sack_of};
-ghost use Rattle.rules.specs.Mpr.{carried};
-ghost use Rattle.rules.specs.Kinds.{fields_of, event_of, kind_ok, layout as layout_of, width as width_of, widths as widths_of};
+ghost use Rattle.std.specs.Prelude.{◌≡◌, true};
+ghost use Rattle.rules.specs.Kinds.{kind_of, fields_of, event_of, kind_ok, layout as layout_of, width as width_of, widths as widths_of};
 ghost use Rattle.rules.specs.Log.{high_cell, high_psn};
 ghost use Rattle.kinds.specs.Padded.{padded, padded_cells, FitsAll};
 
 use psn::{Psn, TURN};
-use rules::{Arrival, Block, Carried, Cell, Event, KINDS, Opening, Options, Sending, Start, Use};
+use rules::{Arrival, Block, Cell, Event, KINDS, Opening, Options, Sending, Start, Use};
 
 // The most fields that a kind has. A field that a kind does not have is of no bits, and 0.
 pub const FIELDS: usize = 4;
@@ -33,9 +31,6 @@ fn layout(kind: u8) -> [Cell; FIELDS]
         5 => [Cell::Psn, Cell::Psn, Cell::Bits(64), Cell::Bits(0)],
         6 => [Cell::Psn, Cell::Bits(8), Cell::Bits(0), Cell::Bits(0)],
         7 => [Cell::Psn, Cell::Bits(0), Cell::Bits(0), Cell::Bits(0)],
-        9 => [Cell::Bits(16), Cell::Psn, Cell::Bits(16), Cell::Psn],
-        10 => [Cell::Bits(8), Cell::Bits(0), Cell::Bits(0), Cell::Bits(0)],
-        11 => [Cell::Psn, Cell::Psn, Cell::Bits(64), Cell::Bits(8)],
         _ => [Cell::Bits(0), Cell::Bits(0), Cell::Bits(0), Cell::Bits(0)],
     }
 }
@@ -63,57 +58,23 @@ pub fn widths(kind: u8) -> [u8; FIELDS]
     ]
 }
 
-// The kind of a start, by its options, and that of a SACK, by whether its MPR is written.
-fn start_kind(options: Options) -> u8
-    ensures { result ≡ start_kind options }
-{
-    if options.dynamic {
-        return 9;
-    }
-    1
-}
-
-fn sack_kind(mpr: Carried) -> u8
-    ensures { result ≡ sack_kind mpr }
-{
-    match mpr {
-        Carried::Unwritten => 5,
-        Carried::Value(_) => 11,
-    }
-}
-
 // An event's kind.
 pub fn kind(event: Event) -> u8
     ensures { result ≡ kind_of event }
 {
     match event {
-        Event::Start(s) => start_kind(s.options),
+        Event::Start(_) => 1,
         Event::Use(u) => match u {
             Use::Close => 2,
             Use::Receives(_) => 4,
-            Use::SetMpr(_) => 10,
             Use::Sends(s) => match s {
                 Sending::Send { size: _ } => 3,
-                Sending::Sack {
-                    cack: _,
-                    block: _,
-                    mpr,
-                } => sack_kind(mpr),
+                Sending::Sack { cack: _, block: _ } => 5,
                 Sending::Nack { psn: _, reason: _ } => 6,
                 Sending::Timer { psn: _ } => 7,
                 Sending::Resend => 8,
             },
         },
-    }
-}
-
-// The field of a SACK's MPR: 0 where it is not written.
-fn sack_field(mpr: Carried) -> u64
-    ensures { result ≡ carried mpr }
-{
-    match mpr {
-        Carried::Unwritten => 0,
-        Carried::Value(v) => v as u64,
     }
 }
 
@@ -130,7 +91,6 @@ pub fn values(event: Event) -> [u64; FIELDS]
         ],
         Event::Use(u) => match u {
             Use::Close => [0, 0, 0, 0],
-            Use::SetMpr(v) => [v as u64, 0, 0, 0],
             Use::Receives(a) => [
                 a.psn.0 as u64,
                 a.size as u64,
@@ -139,11 +99,11 @@ pub fn values(event: Event) -> [u64; FIELDS]
             ],
             Use::Sends(s) => match s {
                 Sending::Send { size } => [size as u64, 0, 0, 0],
-                Sending::Sack { cack, block, mpr } => [
+                Sending::Sack { cack, block } => [
                     cack.0 as u64,
                     block.base.0 as u64,
                     block.bitmap,
-                    sack_field(mpr),
+                    0,
                 ],
                 Sending::Nack { psn, reason } => [psn.0 as u64, reason as u64, 0, 0],
                 Sending::Timer { psn } => [psn.0 as u64, 0, 0, 0],
@@ -153,45 +113,23 @@ pub fn values(event: Event) -> [u64; FIELDS]
     }
 }
 
-// A start with these fields, and a SACK.
-fn start(v: [u64; FIELDS], options: Options) -> Event
-    requires { FitsAll (widths_of 1) v }
-    ensures { result ≡ start_of (get_or v 0 0) (get_or v 1 0) (get_or v 2 0) (get_or v 3 0) options }
-{
-    Event::Start(Start {
-        sending: Opening {
-            room: v[0] as u16,
-            first: Psn(v[1] as u32),
-        },
-        receiving: Opening {
-            room: v[2] as u16,
-            first: Psn(v[3] as u32),
-        },
-        options,
-    })
-}
-
-fn sack(v: [u64; FIELDS], mpr: Carried) -> Event
-    requires { FitsAll (widths_of 11) v }
-    ensures { result ≡ sack_of (get_or v 0 0) (get_or v 1 0) (get_or v 2 0) mpr }
-{
-    Event::Use(Use::Sends(Sending::Sack {
-        cack: Psn(v[0] as u32),
-        block: Block {
-            base: Psn(v[1] as u32),
-            bitmap: v[2],
-        },
-        mpr,
-    }))
-}
-
 // The event of a kind with these fields.
 pub fn event(kind: u8, v: [u64; FIELDS]) -> Event
     requires { (kind_ok kind ≡ true) × FitsAll (widths_of kind) v }
     ensures { result ≡ event_of kind v }
 {
     match kind {
-        1 => start(v, Options { dynamic: false }),
+        1 => Event::Start(Start {
+            sending: Opening {
+                room: v[0] as u16,
+                first: Psn(v[1] as u32),
+            },
+            receiving: Opening {
+                room: v[2] as u16,
+                first: Psn(v[3] as u32),
+            },
+            options: Options {},
+        }),
         2 => Event::Use(Use::Close),
         3 => Event::Use(Use::Sends(Sending::Send { size: v[0] as u16 })),
         4 => Event::Use(Use::Receives(Arrival {
@@ -200,7 +138,13 @@ pub fn event(kind: u8, v: [u64; FIELDS]) -> Event
             flags: v[2] as u8,
             entropy: v[3] as u32,
         })),
-        5 => sack(v, Carried::Unwritten),
+        5 => Event::Use(Use::Sends(Sending::Sack {
+            cack: Psn(v[0] as u32),
+            block: Block {
+                base: Psn(v[1] as u32),
+                bitmap: v[2],
+            },
+        })),
         6 => Event::Use(Use::Sends(Sending::Nack {
             psn: Psn(v[0] as u32),
             reason: v[1] as u8,
@@ -208,10 +152,7 @@ pub fn event(kind: u8, v: [u64; FIELDS]) -> Event
         7 => Event::Use(Use::Sends(Sending::Timer {
             psn: Psn(v[0] as u32),
         })),
-        8 => Event::Use(Use::Sends(Sending::Resend)),
-        9 => start(v, Options { dynamic: true }),
-        10 => Event::Use(Use::SetMpr(v[0] as u8)),
-        _ => sack(v, Carried::Value(v[3] as u8)),
+        _ => Event::Use(Use::Sends(Sending::Resend)),
     }
 }
 

@@ -3,7 +3,6 @@ use mathlib.Core.Path.{◌≡◌, refl, sym, ap, subst, ◌∙◌}
 use mathlib.Core.List.{List}
 use Prim.Native.Nat.{ℕ, ◌+◌}
 use native.Mathlib.Omega.{arith}
-use Rattle.lists.specs.Index.{First}
 use Rattle.lists.proofs.Index.{first_one}
 use Rattle.psn.specs.Psn.{after}
 use Rattle.row.specs.Row.{Becomes}
@@ -11,7 +10,7 @@ use Rattle.row.proofs.Settled.{Words, becomes_settled}
 use Rattle.rules.specs.Numbers.{psn}
 use Rattle.marks.specs.Marks.{marked_at, MarksBit, Marks, Finds, left_after, Takes}
 use Rattle.marks.specs.declared.Found.{Found}
-use Rattle.marks.specs.declared.Found.TheVariants.{Marked, Far, Nothing}
+use Rattle.marks.specs.declared.Found.TheVariants.{Marked, Nothing}
 
 pub mark_settled : (retired marked : List ℕ) (p : ℕ) (vs ws : List ℕ) (r s : ℕ)
     → Words vs → Words ws → MarksBit retired marked p vs r → MarksBit retired marked p ws s → (vs ≡ ws) × (r ≡ s)
@@ -23,26 +22,17 @@ pub mark_psn_settled : (retired marked : List ℕ) (place n p : ℕ) (vs ws : Li
 mark_psn_settled retired marked place n p vs ws r s small small' a b =
     (becomes_settled marked vs ws _ small small' a.marked_are b.marked_are, a.newly_is ∙ sym b.newly_is)
 
-module _ (ws : List ℕ) (place n limit : ℕ) where
-  one : (i j : ℕ) → First (marked_at ws place) n i → First (marked_at ws place) n j → i ≡ j
-  one = first_one (marked_at ws place) n
+pub nearest_settled : (ws : List ℕ) (place n : ℕ) (r s : Found) → Finds ws place n r → Finds ws place n s → r ≡ s
+unfolding Finds
+nearest_settled ws place n (Marked p) (Marked q) (i, l, a, e) (j, m, b, f) =
+    ap Marked (e ∙ ap (λ (k : ℕ). psn (after place (1 + k))) (first_one (marked_at ws place) n i j a b) ∙ sym f)
+nearest_settled ws place n (Marked p) Nothing (i, l, a, e) b = absurd (omega (arith, first_one (marked_at ws place) n i n a b))
+nearest_settled ws place n Nothing (Marked q) a (j, m, b, f) = absurd (omega (arith, first_one (marked_at ws place) n j n b a))
+nearest_settled ws place n Nothing Nothing a b = refl
 
-  pub nearest_settled : (r s : Found) → Finds ws place n limit r → Finds ws place n limit s → r ≡ s
-  unfolding Finds
-  nearest_settled (Marked p) (Marked q) (i, l, k, a, e) (j, m, h, b, f) =
-      ap Marked (e ∙ ap (λ (o : ℕ). psn (after place (1 + o))) (one i j a b) ∙ sym f)
-  nearest_settled (Marked p) Far (i, l, k, a, e) (j, m, h, b) = absurd (omega (arith, one i j a b))
-  nearest_settled (Marked p) Nothing (i, l, k, a, e) b = absurd (omega (arith, one i n a b))
-  nearest_settled Far (Marked q) (i, l, k, a) (j, m, h, b, f) = absurd (omega (arith, one i j a b))
-  nearest_settled Far Far a b = refl
-  nearest_settled Far Nothing (i, l, k, a) b = absurd (omega (arith, one i n a b))
-  nearest_settled Nothing (Marked q) a (j, m, h, b, f) = absurd (omega (arith, one j n b a))
-  nearest_settled Nothing Far a (j, m, h, b) = absurd (omega (arith, one j n b a))
-  nearest_settled Nothing Nothing a b = refl
-
-  pub take_settled : (us vs : List ℕ) (r s : Found) → Words us → Words vs → Takes ws place n limit us r → Takes ws place n limit vs s
-      → (us ≡ vs) × (r ≡ s)
-  take_settled us vs r s small small' a b =
-      let same = nearest_settled r s a.finds b.finds in
-      let as_s = subst (λ (f : Found). Becomes ws us (left_after ws place f)) same a.marked_are in
-      (becomes_settled ws us vs (left_after ws place s) small small' as_s b.marked_are, same)
+pub take_settled : (ws : List ℕ) (place n : ℕ) (us vs : List ℕ) (r s : Found) → Words us → Words vs → Takes ws place n us r → Takes ws place n vs s
+    → (us ≡ vs) × (r ≡ s)
+take_settled ws place n us vs r s small small' a b =
+    let same = nearest_settled ws place n r s a.finds b.finds in
+    let as_s = subst (λ (f : Found). Becomes ws us (left_after ws place f)) same a.marked_are in
+    (becomes_settled ws us vs (left_after ws place s) small small' as_s b.marked_are, same)

@@ -5,7 +5,7 @@ use Rattle.lists.specs.Index.{First}
 use Rattle.row.specs.Row.{at, bits, Becomes, without_bit}
 use Rattle.rules.specs.Numbers.{psn}
 use Rattle.marks.specs.declared.Found.{Found}
-use Rattle.marks.specs.declared.Found.TheVariants.{Marked, Far, Nothing}
+use Rattle.marks.specs.declared.Found.TheVariants.{Marked, Nothing}
 
 -- "marks an outstanding, unretired PSN .. retired or already marked: 0"
 abbrev pub markable : List ℕ → List ℕ → ℕ → Bool
@@ -41,19 +41,16 @@ pub record Marks (retired marked : List ℕ) (place n p : ℕ) (marked' : List �
   pub marked_are : Becomes marked marked'
       (λ k. at marked k || eqb k (bit_of place p) && markable_psn retired marked place n p && ltb k (bits marked))
 
--- "hands out the marked PSN nearest after the place": the i-th is the first that is marked, or none of the n is. 02, No. 7: it is handed out
--- where it is one of the first `limit`, "and 18 exactly when some are marked and none is in that range"
-unfoldable pub Finds : List ℕ → ℕ → ℕ → ℕ → Found → Type 0
-Finds ws place n limit (Marked p) = (i : ℕ) × (i < n) × (i < limit) × First (marked_at ws place) n i × (p ≡ psn (after place (1 + i)))
-Finds ws place n limit Far = (i : ℕ) × (i < n) × (limit ≤ i) × First (marked_at ws place) n i
-Finds ws place n limit Nothing = First (marked_at ws place) n n
+-- "hands out the marked PSN nearest after the place": the i-th is the first that is marked, or none of the n is
+unfoldable pub Finds : List ℕ → ℕ → ℕ → Found → Type 0
+Finds ws place n (Marked p) = (i : ℕ) × (i < n) × First (marked_at ws place) n i × (p ≡ psn (after place (1 + i)))
+Finds ws place n Nothing = First (marked_at ws place) n n
 
 -- "and clears its mark"
 unfoldable pub left_after : List ℕ → ℕ → Found → ℕ → Bool
 left_after ws place (Marked p) = without_bit ws (bit_of place p.0)
-left_after ws place Far = at ws
 left_after ws place Nothing = at ws
 
-pub record Takes (ws : List ℕ) (place n limit : ℕ) (ws' : List ℕ) (r : Found) : Type 0 where
-  pub finds : Finds ws place n limit r
+pub record Takes (ws : List ℕ) (place n : ℕ) (ws' : List ℕ) (r : Found) : Type 0 where
+  pub finds : Finds ws place n r
   pub marked_are : Becomes ws ws' (left_after ws place r)

@@ -27,23 +27,22 @@ pub fn mark_psn(retired: &[u64], marked: &mut [u64], place: Psn, n: u32, psn: Ps
     mark(retired, marked, (place.0 + 1) % 64 + i)
 }
 
-// What the search finds: the nearest mark, or that it is out of range, or that there is none.
+// What the search finds.
 #[derive(Drop)]
 pub enum Found {
     Marked(Psn),
-    Far,
     Nothing,
 }
 
-// The marked packet number nearest after the place, among the n after it, where it is one of the first `limit`. The search goes over words and bits:
-// from bit p on it looks for the lowest mark of the word, steps over a word that has none, and stops at the first found, whose index is its value.
-fn nearest(marked: &[u64], place: Psn, n: u32, limit: u32) -> Found
+// The marked packet number nearest after the place, among the n after it. The search goes over words and bits: from bit p on it looks for the
+// lowest mark of the word, steps over a word that has none, and stops at the first found, which is its value.
+fn nearest(marked: &[u64], place: Psn, n: u32) -> Found
     requires { Reach place.0 n }
-    ensures { Finds marked.now place.0 n limit result }
+    ensures { Finds marked.now place.0 n result }
 {
     let s = (place.0 + 1) % 64;
     let mut p = s;
-    let i = loop {
+    let psn = loop {
         if s + n <= p {
             return Found::Nothing;
         }
@@ -52,27 +51,21 @@ fn nearest(marked: &[u64], place: Psn, n: u32, limit: u32) -> Found
             if s + n <= p + t {
                 return Found::Nothing;
             }
-            break p + t - s;
+            break place.after(1 + (p + t - s));
         }
         p = 64 * (p / 64) + 64;
     };
-    if limit <= i {
-        return Found::Far;
-    }
-    Found::Marked(place.after(1 + i))
+    Found::Marked(psn)
 }
 
-// The marked packet number nearest after the place, among the n after it, where it is one of the first `limit`, with its mark cleared.
-pub fn take(marked: &mut [u64], place: Psn, n: u32, limit: u32) -> Found
+// The marked packet number nearest after the place, among the n after it, with its mark cleared.
+pub fn take(marked: &mut [u64], place: Psn, n: u32) -> Found
     requires { Reach place.0 n }
-    ensures { Takes marked.old place.0 n limit marked.new result }
+    ensures { Takes marked.old place.0 n marked.new result }
 {
-    match nearest(marked, place, n, limit) {
-        Found::Marked(psn) => {
-            row::clear(marked, (place.0 + 1) % 64 + place.after(1).distance(psn));
-            Found::Marked(psn)
-        }
-        Found::Far => Found::Far,
-        Found::Nothing => Found::Nothing,
+    let found = nearest(marked, place, n);
+    if let Found::Marked(psn) = found {
+        row::clear(marked, (place.0 + 1) % 64 + place.after(1).distance(psn));
     }
+    found
 }

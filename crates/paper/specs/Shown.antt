@@ -4,9 +4,9 @@ use Rattle.rules.specs.Paper.{paper}
 use Rattle.rules.specs.declared.Answer.{Answer}
 use Rattle.paper.specs.declared.Shown.{Shown}
 
--- the most values that a line has: those of a SACK with its MPR
+-- the most values that a line has: those of a SACK
 abbrev pub most : ℕ
-most = 9
+most = 8
 
 -- 01, When the card says no: "every value beside it is 0", and so is every place behind a line's last value
 abbrev pub filled : ℕ → List ℕ → Shown

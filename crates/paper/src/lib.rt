@@ -1,12 +1,12 @@
 // What an answer is on paper: its number, and the values that its line shows.
-ghost use Rattle.std.specs.Prelude.{◌≡◌, [], ◌∷◌, length};
-ghost use Rattle.rules.specs.Paper.{code as code_of, digit as digit_of, nonzero};
+ghost use Rattle.std.specs.Prelude.{◌≡◌, [], ◌∷◌};
+ghost use Rattle.rules.specs.Paper.{code as code_of, digit as digit_of};
 ghost use Rattle.paper.specs.Shown.{filled, shown};
 
 use rules::{Answer, Nack, Report, Sack, Verdict};
 
 // The most values that a line has.
-pub const VALUES: usize = 9;
+pub const VALUES: usize = 8;
 
 // The number of an answer and the values that its line shows: the first `many`. The others are 0.
 #[derive(Drop)]
@@ -58,27 +58,17 @@ fn one(value: u64) -> Shown
     Shown {
         number: 0,
         many: 1,
-        values: [value, 0, 0, 0, 0, 0, 0, 0, 0],
+        values: [value, 0, 0, 0, 0, 0, 0, 0],
     }
 }
 
-// How many values a last one is that stands on a line only where it is not 0.
-fn one_unless_zero(last: u64) -> usize
-    ensures { result ≡ length (nonzero last) }
-{
-    if last == 0 {
-        return 0;
-    }
-    1
-}
-
-// The line of an arrival that is fresh or known: a SACK's MPR stands last, where it is not 0.
+// The line of an arrival that is fresh or known.
 fn acked(v: Verdict, k: Sack) -> Shown
     ensures { result ≡ shown (Answer.Acked v k) }
 {
     Shown {
         number: 0,
-        many: 8 + one_unless_zero(k.mpr as u64),
+        many: 8,
         values: [
             code(v),
             k.cack.0 as u64,
@@ -88,7 +78,6 @@ fn acked(v: Verdict, k: Sack) -> Shown
             k.entropy as u64,
             digit(k.rtx),
             digit(k.mark),
-            k.mpr as u64,
         ],
     }
 }
@@ -109,24 +98,22 @@ fn nacked(v: Verdict, k: Nack) -> Shown
             0,
             0,
             0,
-            0,
         ],
     }
 }
 
-// The line of a SACK: the flag stands last, where it is set.
+// The line of a SACK.
 fn retired(k: Report) -> Shown
     ensures { result ≡ shown (Answer.Retired k) }
 {
     Shown {
         number: 0,
-        many: 4 + one_unless_zero(digit(k.flag)),
+        many: 4,
         values: [
             k.newly as u64,
             k.place.0 as u64,
             k.held as u64,
             k.alarms as u64,
-            digit(k.flag),
             0,
             0,
             0,
@@ -150,6 +137,5 @@ pub fn line_of(answer: Answer) -> Shown
         Answer::Marked(n) => one(n as u64),
         Answer::Expired(n) => one(n as u64),
         Answer::Resent(p) => one(p.0 as u64),
-        Answer::MprSet => none(0),
     }
 }

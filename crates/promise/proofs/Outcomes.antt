@@ -5,7 +5,7 @@ use mathlib.Core.List.{[], ◌∷◌}
 use Prim.Native.Nat.{ℕ}
 use lib.ListN.{length}
 use Rattle.promise.specs.Line.{Line}
-use Rattle.promise.specs.Outcome.{Outcome, Refused, Done, Refusals, unless, left, on_paper, within, answering}
+use Rattle.promise.specs.Outcome.{Outcome, Refused, Done, Refusals, unless, left, on_paper, within}
 use Rattle.promise.proofs.Refusing.{Past, through}
 
 module _ {A S : Type 0} where
@@ -63,25 +63,3 @@ module _ {A S T : Type 0} (whole : S → T) where
   unfolding left within
   after_within P Q x z (Refused n) p q h = record { holds = q }
   after_within P Q x z (Done y a) p q h = record { holds = h y p.holds }
-
--- ---- the same outcome, answered otherwise
-module _ {A S : Type 0} (f : A → A) where
-  pub left_answering : (x : S) (o : Outcome A S) → left x (answering f o) ≡ left x o
-  unfolding left answering
-  left_answering x (Refused n) = refl
-  left_answering x (Done y a) = refl
-
-  pub unless_answering : (l : Refusals) (o : Outcome A S) → unless l (answering f o) ≡ answering f (unless l o)
-  unfolding unless answering
-  unless_answering [] o = refl
-  unless_answering (t ∷ l) o = by t.0 (unless_answering l o)
-    where
-      by : (b : Bool) → unless l (answering f o) ≡ answering f (unless l o)
-          → cond b (Refused t.1) (unless l (answering f o)) ≡ answering f (cond b (Refused t.1) (unless l o))
-      by true e = refl
-      by false e = e
-
-  pub after_answering : (P : S → Type 0) (x : S) (o : Outcome A S) → After P x o → After P x (answering f o)
-  unfolding left answering
-  after_answering P x (Refused n) p = record { holds = p.holds }
-  after_answering P x (Done y a) p = record { holds = p.holds }

@@ -1,8 +1,8 @@
 -- What an answer is on paper: a number, and the values beside it.
 use Rattle.std.specs.Prelude.{List, [], ℕ}
 
--- The kind that is answered, the lowest of those with this answer, and 0 beside a refusal; 0 for done, or the refusal's number; the values
--- that the program prints; the values that only the library hands out.
+-- The kind that is answered, 0 beside a refusal; 0 for done, or the refusal's number; the values that the program prints; the
+-- values that only the library hands out.
 pub record Line : Type 0 where
   pub kind : ℕ
   pub number : ℕ

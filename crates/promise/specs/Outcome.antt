@@ -35,8 +35,3 @@ on_paper line (Done y a) = line a
 unfoldable pub within : {A S T : Type 0} → (S → T) → Outcome A S → Outcome A T
 within whole (Refused n) = Refused n
 within whole (Done y a) = Done (whole y) a
-
--- the same outcome with its answer told otherwise
-unfoldable pub answering : {A S : Type 0} → (A → A) → Outcome A S → Outcome A S
-answering f (Refused n) = Refused n
-answering f (Done y a) = Done y (f a)

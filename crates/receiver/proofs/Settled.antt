@@ -1,6 +1,5 @@
 -- Each public function's promise settles its outcome: any two results that it allows are equal in answer and meaning. Assumes nothing.
 use mathlib.Core.Path.{◌≡◌, sym, ◌∙◌}
-use Prim.Native.Nat.{ℕ}
 use Rattle.promise.specs.Outcome.{Outcome}
 use Rattle.rules.specs.Receiver.{start}
 use Rattle.rules.specs.Receiver as rule
@@ -25,8 +24,8 @@ empty_settled x y p q = p ∙ sym q
 pub start_settled : (o : Opening) (r s : Stepped) → Steps empty (start o) r → Steps empty (start o) s → Same r s
 start_settled o = same empty (start o)
 
-pub arrive_settled : (x : Receiver) (mpr : ℕ) (a : Arrival) (r s : Stepped) → Steps x (arrive mpr (meaning x) a) r → Steps x (arrive mpr (meaning x) a) s → Same r s
-arrive_settled x mpr a = same x (arrive mpr (meaning x) a)
+pub arrive_settled : (x : Receiver) (a : Arrival) (r s : Stepped) → Steps x (arrive (meaning x) a) r → Steps x (arrive (meaning x) a) s → Same r s
+arrive_settled x a = same x (arrive (meaning x) a)
 
-pub step_settled : (x : Receiver) (mpr : ℕ) (e : Receiving) (r s : Stepped) → Steps x (step mpr (meaning x) e) r → Steps x (step mpr (meaning x) e) s → Same r s
-step_settled x mpr e = same x (step mpr (meaning x) e)
+pub step_settled : (x : Receiver) (e : Receiving) (r s : Stepped) → Steps x (step (meaning x) e) r → Steps x (step (meaning x) e) s → Same r s
+step_settled x e = same x (step (meaning x) e)

@@ -72,10 +72,10 @@ impl Receiver {
         }
     }
 
-    // An arrival. Its SACK carries the MPR given.
-    pub fn arrive(self, mpr: u8, a: Arrival) -> Stepped
+    // An arrival.
+    pub fn arrive(self, a: Arrival) -> Stepped
         requires { Sound self }
-        ensures { Steps self (arrive_of mpr (meaning self) a) result }
+        ensures { Steps self (arrive_of (meaning self) a) result }
     {
         let expected = self.expected;
         let mut words = self.words;
@@ -84,7 +84,7 @@ impl Receiver {
             expected,
             count: self.count,
         };
-        let out = head.arrive(&mut words, mpr, a);
+        let out = head.arrive(&mut words, a);
         let answer = out.answer;
         let left = out.record;
         let next = left.expected;
@@ -99,11 +99,11 @@ impl Receiver {
         }
     }
 
-    // An event. An arrival is given the MPR that its SACK carries.
-    pub fn step(self, mpr: u8, event: Receiving) -> Stepped
+    // An event.
+    pub fn step(self, event: Receiving) -> Stepped
         requires { Sound self }
-        ensures { Steps self (step_of mpr (meaning self) event) result }
+        ensures { Steps self (step_of (meaning self) event) result }
     {
-        self.arrive(mpr, event)
+        self.arrive(event)
     }
 }

@@ -44,9 +44,9 @@ words_are x (inl e) = subst (λ (y : Lent). Row y.words (bit_of (meaning y))) (s
 words_are x (inr s) = started_words x s
 
 -- the words after it are us or vs
-pub arrive_settled : (x : Lent) (mpr : ℕ) (a : Arrival) (r s : Stepped) (us vs : List ℕ) → Words us → Words vs → Arrives x mpr a r us → Arrives x mpr a s vs
+pub arrive_settled : (x : Lent) (a : Arrival) (r s : Stepped) (us vs : List ℕ) → Words us → Words vs → Arrives x a r us → Arrives x a s vs
     → (r.answer ≡ s.answer) × (r.«record» ≡ s.«record») × (us ≡ vs)
-arrive_settled x mpr a r s us vs small small' p q =
+arrive_settled x a r s us vs small small' p q =
     let y = lent r.«record» us in
     let z = lent s.«record» vs in
     let same = settled r.answer s.answer y z p.meets q.meets in

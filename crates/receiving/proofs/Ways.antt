@@ -1,5 +1,5 @@
 -- The ways to a verdict, one law for each: the tests on the way to it; and what follows from a verdict. Assumes nothing.
-use Rattle.std.proofs.Common.{◌≡◌, ℕ, Bool, true, false, refl}
+use Rattle.std.proofs.Common.{◌≡◌, Bool, true, false, refl}
 use Rattle.promise.specs.Outcome.{Done}
 use Rattle.rules.specs.Numbers.{trimmed, trimmed_last_hop, no_buffer}
 use Rattle.rules.specs.Receiver.{Receiver, judge, known, beyond, verdict, nack_of, judged}
@@ -51,11 +51,11 @@ module _ (r : Receiver) (a : Arrival) where
   fresh_reachable e = judge_fresh (trimmed a.flags) (trimmed_last_hop a.flags) (known r a.psn.0) (beyond r a.psn.0) (no_buffer a.flags) e
 
   -- what is neither fresh nor known brings a NACK
-  pub judged_nack : (mpr : ℕ) (v : Verdict) → (v ≡ Fresh → ⊥) → (v ≡ Known → ⊥) → judged mpr r a v ≡ Done r (answer.Nacked v (nack_of v a))
+  pub judged_nack : (v : Verdict) → (v ≡ Fresh → ⊥) → (v ≡ Known → ⊥) → judged r a v ≡ Done r (answer.Nacked v (nack_of v a))
   unfolding judged
-  judged_nack mpr Fresh f k = absurd (f refl)
-  judged_nack mpr Known f k = absurd (k refl)
-  judged_nack mpr Beyond f k = refl
-  judged_nack mpr NoBuffer f k = refl
-  judged_nack mpr Trim f k = refl
-  judged_nack mpr TrimLastHop f k = refl
+  judged_nack Fresh f k = absurd (f refl)
+  judged_nack Known f k = absurd (k refl)
+  judged_nack Beyond f k = refl
+  judged_nack NoBuffer f k = refl
+  judged_nack Trim f k = refl
+  judged_nack TrimLastHop f k = refl

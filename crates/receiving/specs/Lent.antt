@@ -58,13 +58,13 @@ pub record Accepts (x : Lent) (a : Arrival) (y : Lent) : Type 0 where
   pub accepted_is : meaning y ≡ accept (meaning x) a
 
 -- an arrival judged v, fresh or known, is counted and answered as the rule says, over the same words
-pub record Acks (x : Lent) (mpr : ℕ) (v : Verdict) (a : Arrival) (r : Stepped) : Type 0 where
+pub record Acks (x : Lent) (v : Verdict) (a : Arrival) (r : Stepped) : Type 0 where
   pub started : Started (lent r.«record» x.words)
   pub counted_is : meaning (lent r.«record» x.words) ≡ counted (meaning x) a
-  pub answer_is : r.answer ≡ answer.Acked v (sack_of mpr (counted (meaning x) a) a)
+  pub answer_is : r.answer ≡ answer.Acked v (sack_of (counted (meaning x) a) a)
 
--- an arrival whose SACK carries this MPR is answered r, and the words after it are ws
-pub record Arrives (x : Lent) (mpr : ℕ) (a : Arrival) (r : Stepped) (ws : List ℕ) : Type 0 where
-  pub meets : Meets paper Sound meaning x (arrive mpr (meaning x) a) r.answer (lent r.«record» ws)
+-- an arrival is answered r, and the words after it are ws
+pub record Arrives (x : Lent) (a : Arrival) (r : Stepped) (ws : List ℕ) : Type 0 where
+  pub meets : Meets paper Sound meaning x (arrive (meaning x) a) r.answer (lent r.«record» ws)
   -- the words are as many as before
   pub long : length ws ≡ length x.words

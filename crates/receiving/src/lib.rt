@@ -103,10 +103,10 @@ impl Head {
         }
     }
 
-    // The reply to a packet that is fresh or known, from the record after it, with the MPR that it is given.
-    fn sack(self, words: &[u64], mpr: u8, a: Arrival) -> Sack
+    // The reply to a packet that is fresh or known, from the record after it.
+    fn sack(self, words: &[u64], a: Arrival) -> Sack
         requires { Started (lent self words.now) }
-        ensures { result ≡ sack_of mpr (meaning (lent self words.now)) a }
+        ensures { result ≡ sack_of (meaning (lent self words.now)) a }
     {
         let room = self.room;
         let expected = self.expected;
@@ -124,7 +124,7 @@ impl Head {
             cack: expected.after(TURN - 1),
             block,
             count: self.count / 256,
-            mpr,
+            mpr: 0,
             entropy: a.entropy,
             rtx: allowed::flag(a.flags, RTX),
             mark: allowed::flag(a.flags, ECN),
@@ -132,9 +132,9 @@ impl Head {
     }
 
     // A packet that was just accepted, or is known: its size is counted, and a SACK answers it.
-    fn acked(self, words: &[u64], mpr: u8, v: Verdict, a: Arrival) -> Stepped
+    fn acked(self, words: &[u64], v: Verdict, a: Arrival) -> Stepped
         requires { Started (lent self words.now) }
-        ensures { Acks (lent self words.now) mpr v a result }
+        ensures { Acks (lent self words.now) v a result }
     {
         let expected = self.expected;
         let head = Head {
@@ -143,7 +143,7 @@ impl Head {
             count: std::num::wrapping_add_u32(self.count, a.size as u32),
         };
         Stepped {
-            answer: Answer::Acked(v, head.sack(words, mpr, a)),
+            answer: Answer::Acked(v, head.sack(words, a)),
             record: head,
         }
     }
@@ -158,10 +158,10 @@ impl Head {
         }
     }
 
-    // An arrival, over lent words. Its SACK carries the MPR given.
-    pub fn arrive(self, words: &mut [u64], mpr: u8, a: Arrival) -> Stepped
+    // An arrival, over lent words.
+    pub fn arrive(self, words: &mut [u64], a: Arrival) -> Stepped
         requires { Sound (lent self words.old) }
-        ensures { Arrives (lent self words.old) mpr a result words.new }
+        ensures { Arrives (lent self words.old) a result words.new }
     {
         if self.room == 0 {
             return self.refused(2);
@@ -179,10 +179,10 @@ impl Head {
         let v = self.judge(words, a);
         if let Verdict::Fresh = v {
             let head = self.accept(words, a);
-            return head.acked(words, mpr, v, a);
+            return head.acked(words, v, a);
         }
         if let Verdict::Known = v {
-            return self.acked(words, mpr, v, a);
+            return self.acked(words, v, a);
         }
         Stepped {
             answer: Answer::Nacked(v, nack(v, a)),

@@ -2,14 +2,12 @@
 use mathlib.Core.Path.{◌≡◌, refl, sym, ap, ◌∙◌}
 use mathlib.Core.Bool.{Bool, true, false, cond}
 use mathlib.Core.List.{List, [], ◌∷◌}
-use Prim.Native.Nat.{ℕ, zero, suc}
-use native.Mathlib.Omega.{arith}
-use borrow.Author.Tests.{ne_eqb}
+use Prim.Native.Nat.{ℕ}
 use lib.Dec.{eqb}
-use lib.ListN.{get_or, drop}
+use lib.ListN.{length, get_or, drop}
 use Rattle.promise.specs.Line.{Line}
 use Rattle.rules.specs.Numbers.{psn}
-use Rattle.rules.specs.Paper.{digit, nonzero, code, paper, read_line, written_line}
+use Rattle.rules.specs.Paper.{digit, code, paper, read_line, written_line}
 use Rattle.rules.specs.Kinds.{event_of}
 use Rattle.rules.specs.declared.Verdict.{Verdict}
 use Rattle.rules.specs.declared.Verdict.TheVariants.{Fresh, Known, Beyond, NoBuffer, Trim, TrimLastHop}
@@ -29,19 +27,6 @@ apart line back same x y h = sym (same x) ∙ ap back h ∙ same y
 digit_back : (b : Bool) → eqb (digit b) 1 ≡ b
 digit_back true = refl
 digit_back false = refl
-
-no_values : List ℕ → Bool
-no_values [] = true
-no_values (v ∷ l) = false
-
--- a value that stands only where it is not 0, by what stands there
-nonzero_back : (n : ℕ) → get_or (nonzero n) 0 0 ≡ n
-nonzero_back zero = refl
-nonzero_back (suc n) = rw (ne_eqb (suc n) 0 (λ e. omega (arith, e)))
-
-flag_back : (b : Bool) → eqb (get_or (nonzero (digit b)) 0 0) 1 ≡ b
-flag_back true = refl
-flag_back false = refl
 
 verdict_of : ℕ → Verdict
 verdict_of n = get_or (Fresh ∷ Known ∷ Beyond ∷ NoBuffer ∷ Trim ∷ TrimLastHop ∷ []) n Fresh
@@ -66,7 +51,7 @@ acked l =
       cack = psn (n 1);
       block = record { base = psn (n 2); bitmap = n 3 };
       count = n 4;
-      mpr = n 8;
+      mpr = get_or l.unprinted 0 0;
       entropy = n 5;
       rtx = eqb (n 6) 1;
       mark = eqb (n 7) 1;
@@ -85,18 +70,16 @@ answer_of l =
     ∷ answer.Started
     ∷ answer.Closed
     ∷ answer.Sent (psn (n 0))
-    ∷ cond (no_values l.unprinted) (acked l) (nacked l)
-    ∷ answer.Retired (record { newly = n 0; place = psn (n 1); held = n 2; alarms = n 3; flag = eqb (n 4) 1 })
+    ∷ cond (eqb (length l.values) 8) (acked l) (nacked l)
+    ∷ answer.Retired (record { newly = n 0; place = psn (n 1); held = n 2; alarms = n 3 })
     ∷ answer.Marked (n 0)
     ∷ answer.Expired (n 0)
     ∷ answer.Resent (psn (n 0))
-    ∷ answer.Started
-    ∷ answer.MprSet
     ∷ [])
     l.kind answer.Started
 
 answer_back : (a : Answer) → answer_of (paper a) ≡ a
-unfolding answer_of paper acked nacked no_values
+unfolding answer_of paper acked nacked
 answer_back (answer.Refused n) = refl
 answer_back answer.Started = refl
 answer_back answer.Closed = refl
@@ -104,12 +87,11 @@ answer_back (answer.Sent p) = refl
 answer_back (answer.Acked v k) =
     let rtx = digit_back k.rtx in
     let mark = digit_back k.mark in
-    let mpr = nonzero_back k.mpr in
     λ i. answer.Acked (verdict_back v i) (record {
       cack = k.cack;
       block = k.block;
       count = k.count;
-      mpr = mpr i;
+      mpr = k.mpr;
       entropy = k.entropy;
       rtx = rtx i;
       mark = mark i;
@@ -117,18 +99,19 @@ answer_back (answer.Acked v k) =
 answer_back (answer.Nacked v k) =
     let rtx = digit_back k.rtx in
     λ i. answer.Nacked (verdict_back v i) (record { psn = k.psn; reason = k.reason; entropy = k.entropy; rtx = rtx i })
-answer_back (answer.Retired k) =
-    let flag = flag_back k.flag in
-    λ i. answer.Retired (record { newly = k.newly; place = k.place; held = k.held; alarms = k.alarms; flag = flag i })
+answer_back (answer.Retired k) = refl
 answer_back (answer.Marked n) = refl
 answer_back (answer.Expired n) = refl
 answer_back (answer.Resent p) = refl
-answer_back answer.MprSet = refl
 
 pub answers_apart : (x y : Answer) → paper x ≡ paper y → x ≡ y
 answers_apart = apart paper answer_of answer_back
 
 -- ---- answers of the log's reader
+no_values : List ℕ → Bool
+no_values [] = true
+no_values (v ∷ l) = false
+
 read_of : Line → Read
 read_of l =
     let n : ℕ → ℕ = λ i. get_or l.values i 0 in

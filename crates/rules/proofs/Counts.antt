@@ -2,7 +2,7 @@
 -- fresh packet changes more than the count. Assumes nothing.
 use mathlib.Core.Path.{◌≡◌, refl}
 use mathlib.Core.Bool.{cond}
-use Prim.Native.Nat.{ℕ, ◌+◌, ◌%◌, ◌^◌}
+use Prim.Native.Nat.{◌+◌, ◌%◌, ◌^◌}
 use lib.Dec.{ltb}
 use Rattle.promise.specs.Outcome.{left}
 use Rattle.rules.specs.Receiver.{Receiver, accept, counted, sack_of, nack_of, acked, judged}
@@ -12,9 +12,9 @@ use Rattle.rules.specs.declared.Verdict.{Verdict}
 use Rattle.rules.specs.declared.Verdict.TheVariants.{Fresh, Known, Beyond, NoBuffer, Trim, TrimLastHop}
 use Rattle.rules.specs.declared.Answer.TheVariants as answer
 
-module _ (mpr : ℕ) (r : Receiver) (a : Arrival) where
+module _ (r : Receiver) (a : Arrival) where
   -- "every arrival answered 0 or 1 adds its size; beyond, no-buffer and trimmed ones still don't"
-  pub count_by_answer : (v : Verdict) → (left r (judged mpr r a v)).count ≡ cond (ltb (code v) 2) ((r.count + a.size) % 2 ^ 32) r.count
+  pub count_by_answer : (v : Verdict) → (left r (judged r a v)).count ≡ cond (ltb (code v) 2) ((r.count + a.size) % 2 ^ 32) r.count
   unfolding judged acked accept counted left code
   count_by_answer Fresh = refl
   count_by_answer Known = refl
@@ -23,9 +23,9 @@ module _ (mpr : ℕ) (r : Receiver) (a : Arrival) where
   count_by_answer Trim = refl
   count_by_answer TrimLastHop = refl
 
-  -- "Answers 0 and 1 bring a SACK, the others a NACK"; the SACK is that of the record after the event, and carries the MPR given
+  -- "Answers 0 and 1 bring a SACK, the others a NACK"; the SACK is that of the record after the event
   pub reply_by_answer : (v : Verdict)
-      → answered (judged mpr r a v) ≡ cond (ltb (code v) 2) (answer.Acked v (sack_of mpr (left r (judged mpr r a v)) a)) (answer.Nacked v (nack_of v a))
+      → answered (judged r a v) ≡ cond (ltb (code v) 2) (answer.Acked v (sack_of (left r (judged r a v)) a)) (answer.Nacked v (nack_of v a))
   unfolding judged acked answered left code
   reply_by_answer Fresh = refl
   reply_by_answer Known = refl
@@ -35,7 +35,7 @@ module _ (mpr : ℕ) (r : Receiver) (a : Arrival) where
   reply_by_answer TrimLastHop = refl
 
   pub tracks_by_fresh : (v : Verdict) → (v ≡ Fresh → ⊥)
-      → ((left r (judged mpr r a v)).expected ≡ r.expected) × ((left r (judged mpr r a v)).window ≡ r.window)
+      → ((left r (judged r a v)).expected ≡ r.expected) × ((left r (judged r a v)).window ≡ r.window)
   unfolding judged acked counted left
   tracks_by_fresh Fresh f = absurd (f refl)
   tracks_by_fresh Known f = (refl, refl)

@@ -1,6 +1,6 @@
 -- A kind with its fields and the event that it makes undo one another, kind by kind. Assumes nothing.
 use mathlib.Core.Path.{◌≡◌, refl, sym, ap, ◌∙◌, subst}
-use mathlib.Core.Bool.{Bool, true, false, cond}
+use mathlib.Core.Bool.{true}
 use mathlib.Core.List.{List, [], ◌∷◌}
 use Prim.Native.Nat.{ℕ, zero, suc, ◌+◌, ◌-◌, ◌≤◌, ◌<◌}
 use native.Mathlib.Decide.{ℕ_discrete}
@@ -9,8 +9,7 @@ use borrow.Author.Tests.{ltb-true, leb-true}
 use lib.Dec.{leb, ltb}
 use lib.ListN.{length, get_or, drop, drop_of_length-le}
 use lib.Seq.{drop-cons}
-use Rattle.rules.specs.Kinds.{start_kind, sack_kind, kind_of, sack_field, fields_of, start_of, event_of, layouts, layout, kind_ok}
-use Rattle.rules.specs.declared.Carried.TheVariants as carried
+use Rattle.rules.specs.Kinds.{kind_of, fields_of, event_of, layouts, layout, kind_ok}
 use Rattle.rules.specs.declared.Sending.TheVariants as sending
 use Rattle.rules.specs.declared.Use.TheVariants as use-of
 use Rattle.rules.specs.declared.Event.{Event}
@@ -18,40 +17,26 @@ use Rattle.rules.specs.declared.Event.TheVariants as event
 use Rattle.lists.proofs.Joined.{and_true_each}
 
 pub known_kind : (e : Event) → kind_ok (kind_of e) ≡ true
-unfolding kind_of start_kind sack_kind layouts
-known_kind (event.Start s) = go s.options.dynamic
-  where
-    go : (b : Bool) → kind_ok (cond b 9 1) ≡ true
-    go true = refl
-    go false = refl
+unfolding kind_of layouts
+known_kind (event.Start s) = refl
 known_kind (event.Use use-of.Close) = refl
 known_kind (event.Use (use-of.Sends (sending.Send z))) = refl
 known_kind (event.Use (use-of.Receives a)) = refl
-known_kind (event.Use (use-of.Sends (sending.Sack c b carried.Unwritten))) = refl
-known_kind (event.Use (use-of.Sends (sending.Sack c b (carried.Value v)))) = refl
+known_kind (event.Use (use-of.Sends (sending.Sack c b))) = refl
 known_kind (event.Use (use-of.Sends (sending.Nack p n))) = refl
 known_kind (event.Use (use-of.Sends (sending.Timer p))) = refl
 known_kind (event.Use (use-of.Sends sending.Resend)) = refl
-known_kind (event.Use (use-of.SetMpr v)) = refl
 
 pub event_again : (e : Event) → event_of (kind_of e) (fields_of e) ≡ e
-unfolding kind_of start_kind sack_kind fields_of sack_field event_of
-event_again (event.Start s) = go s.options.dynamic
-  where
-    go : (b : Bool)
-        → event_of (cond b 9 1) (s.sending.room ∷ s.sending.first.0 ∷ s.receiving.room ∷ s.receiving.first.0 ∷ [])
-        ≡ start_of s.sending.room s.sending.first.0 s.receiving.room s.receiving.first.0 (record { dynamic = b })
-    go true = refl
-    go false = refl
+unfolding kind_of fields_of event_of
+event_again (event.Start s) = refl
 event_again (event.Use use-of.Close) = refl
 event_again (event.Use (use-of.Sends (sending.Send z))) = refl
 event_again (event.Use (use-of.Receives a)) = refl
-event_again (event.Use (use-of.Sends (sending.Sack c b carried.Unwritten))) = refl
-event_again (event.Use (use-of.Sends (sending.Sack c b (carried.Value v)))) = refl
+event_again (event.Use (use-of.Sends (sending.Sack c b))) = refl
 event_again (event.Use (use-of.Sends (sending.Nack p n))) = refl
 event_again (event.Use (use-of.Sends (sending.Timer p))) = refl
 event_again (event.Use (use-of.Sends sending.Resend)) = refl
-event_again (event.Use (use-of.SetMpr v)) = refl
 
 known_range : (k : ℕ) → kind_ok k ≡ true → (1 ≤ k) × (k < length layouts)
 known_range k o = let h = and_true_each (leb 1 k) (ltb k (length layouts)) o in (leb-true 1 k h.0, ltb-true k (length layouts) h.1)
@@ -75,8 +60,8 @@ pub by_kind : (P : ℕ → Type 0) → Each P 1 (length layouts - 1) → (k : �
 by_kind P e k o = let r = known_range k o in each_at P 1 (length layouts - 1) e k r.0 (omega (arith, r.0, r.1))
 
 pub kind_again : (k : ℕ) (l : List ℕ) → kind_ok k ≡ true → kind_of (event_of k l) ≡ k
-unfolding event_of kind_of start_kind sack_kind layouts Each
-kind_again k l o = by_kind (λ n. kind_of (event_of n l) ≡ n) (refl, (refl, (refl, (refl, (refl, (refl, (refl, (refl, (refl, (refl, (refl, tt))))))))))) k o
+unfolding event_of kind_of layouts Each
+kind_again k l o = by_kind (λ n. kind_of (event_of n l) ≡ n) (refl, (refl, (refl, (refl, (refl, (refl, (refl, (refl, tt)))))))) k o
 
 -- the n elements from place i on
 listed : List ℕ → ℕ → ℕ → List ℕ
@@ -89,10 +74,10 @@ listed_all l i zero h = sym (drop_of_length-le l {i = i} (omega arith))
 listed_all l i (suc n) h = ap (λ (t : List ℕ). get_or l i 0 ∷ t) (listed_all l (suc i) n (omega arith)) ∙ sym (drop-cons l i 0 (omega arith))
 
 pub fields_again : (k : ℕ) (l : List ℕ) → kind_ok k ≡ true → length l ≡ length (layout k) → fields_of (event_of k l) ≡ l
-unfolding event_of fields_of sack_field layout layouts listed Each
+unfolding event_of fields_of layout layouts listed Each
 fields_again k l o =
     by_kind (λ n. length l ≡ length (layout n) → fields_of (event_of n l) ≡ l)
-    (all 4, (all 0, (all 1, (all 4, (all 3, (all 2, (all 1, (all 0, (all 4, (all 1, (all 4, tt))))))))))) k o
+    (all 4, (all 0, (all 1, (all 4, (all 3, (all 2, (all 1, (all 0, tt)))))))) k o
   where
     all : (n : ℕ) → length l ≡ n → listed l 0 n ≡ l
     all n h = listed_all l 0 n (omega arith)

@@ -21,12 +21,12 @@ use Rattle.rules.proofs.Receives.{receives_step}
 use Rattle.rules.proofs.Contradicts.{all_past}
 
 -- the SACK of an arrival is that of the record after it (`reply_by_answer` in Counts)
-pub receiver_honest : (mpr : ℕ) (r : Receiver) (a : Arrival) → Receives r
-    → let k = sack_of mpr (left r (arrive mpr r a)) a in contradicts k.cack.0 k.block ≡ false
+pub receiver_honest : (r : Receiver) (a : Arrival) → Receives r
+    → let k = sack_of (left r (arrive r a)) a in contradicts k.cack.0 k.block ≡ false
 unfolding receiving.step sack_of block
-receiver_honest mpr r a h =
-    let K = (receives_step mpr r a h).holds in
-    let s = left r (arrive mpr r a) in
+receiver_honest r a h =
+    let K = (receives_step r a h).holds in
+    let s = left r (arrive r a) in
     let o = block_at s a.psn.0 in
     let rest = drop o s.window in
     all_past s.expected o (block s a.psn.0).bitmap

@@ -56,7 +56,6 @@ tells (answer.Retired k) = record { set = 0; taken = 0; alarms = k.alarms }
 tells (answer.Marked n) = were_set n
 tells (answer.Expired n) = were_set n
 tells (answer.Resent p) = record { set = 0; taken = 1; alarms = 0 }
-tells answer.MprSet = nothing
 
 abbrev pub set_by : Answer → ℕ
 set_by a = (tells a).set
@@ -181,34 +180,34 @@ unfolding resent nearest with_entries answered left tells
 balanced_resent x h = omega (arith, marks_taken x.entries (leb-false (outstanding x) (nearest x) h))
 
 -- ---- one event
-pub ledger_step : (limit : ℕ) (x : Sender) (e : Sending) → Sends x
-    → standing x + set_by (answered (step limit x e))
-    ≡ standing (left x (step limit x e)) + taken_by (answered (step limit x e)) + alarms_by (answered (step limit x e))
+pub ledger_step : (x : Sender) (e : Sending) → Sends x
+    → standing x + set_by (answered (step x e))
+    ≡ standing (left x (step x e)) + taken_by (answered (step x e)) + alarms_by (answered (step x e))
 unfolding step send sack nack timer resend resend_refusals Past
-ledger_step limit x (sending.Send size) k = through (Balanced x) (send_refusals limit x size) _ (balanced_refused x) (λ _. balanced_sent x size)
-ledger_step limit x (sending.Sack cack b m) k = through (Balanced x) (sack_refusals x cack b) _ (balanced_refused x) (λ _. balanced_acknowledged x cack.0 b k)
-ledger_step limit x (sending.Nack p reason) k = through (Balanced x) (nack_refusals x p reason) _ (balanced_refused x) (λ _. balanced_nacked x p.0 reason)
-ledger_step limit x (sending.Timer p) k = through (Balanced x) (timer_refusals x p) _ (balanced_refused x) (λ _. balanced_expired x p.0)
-ledger_step limit x sending.Resend k = through (Balanced x) (resend_refusals limit x) _ (balanced_refused x) (λ p. balanced_resent x p.1.0)
+ledger_step x (sending.Send size) k = through (Balanced x) (send_refusals x size) _ (balanced_refused x) (λ _. balanced_sent x size)
+ledger_step x (sending.Sack cack b) k = through (Balanced x) (sack_refusals x cack b) _ (balanced_refused x) (λ _. balanced_acknowledged x cack.0 b k)
+ledger_step x (sending.Nack p reason) k = through (Balanced x) (nack_refusals x p reason) _ (balanced_refused x) (λ _. balanced_nacked x p.0 reason)
+ledger_step x (sending.Timer p) k = through (Balanced x) (timer_refusals x p) _ (balanced_refused x) (λ _. balanced_expired x p.0)
+ledger_step x sending.Resend k = through (Balanced x) (resend_refusals x) _ (balanced_refused x) (λ p. balanced_resent x p.1.0)
 
--- ---- a course of events, each given its limit
+-- ---- a course of events
 -- the record that it leaves, and what its answers tell together
-unfoldable pub after_all : Sender → List (ℕ × Sending) → Sender
+unfoldable pub after_all : Sender → List Sending → Sender
 after_all x [] = x
-after_all x ((limit, e) ∷ l) = after_all (left x (step limit x e)) l
+after_all x (e ∷ l) = after_all (left x (step x e)) l
 
-unfoldable pub in_all : (Answer → ℕ) → Sender → List (ℕ × Sending) → ℕ
+unfoldable pub in_all : (Answer → ℕ) → Sender → List Sending → ℕ
 in_all w x [] = 0
-in_all w x ((limit, e) ∷ l) = w (answered (step limit x e)) + in_all w (left x (step limit x e)) l
+in_all w x (e ∷ l) = w (answered (step x e)) + in_all w (left x (step x e)) l
 
-pub ledger_from : (x : Sender) (l : List (ℕ × Sending)) → Sends x
+pub ledger_from : (x : Sender) (l : List Sending) → Sends x
     → standing x + in_all set_by x l ≡ standing (after_all x l) + in_all taken_by x l + in_all alarms_by x l
 unfolding after_all in_all
 ledger_from x [] k = omega arith
-ledger_from x ((limit, e) ∷ l) k = omega (arith, ledger_step limit x e k, ledger_from (left x (step limit x e)) l (sends_step limit x e k).holds)
+ledger_from x (e ∷ l) k = omega (arith, ledger_step x e k, ledger_from (left x (step x e)) l (sends_step x e k).holds)
 
 -- from a start on: marks set = taken by a resend + false alarms + standing
-pub ledger : (n p : ℕ) → room_ok n ≡ true → (l : List (ℕ × Sending))
+pub ledger : (n p : ℕ) → room_ok n ≡ true → (l : List Sending)
     → in_all set_by (fresh n p) l ≡ standing (after_all (fresh n p) l) + in_all taken_by (fresh n p) l + in_all alarms_by (fresh n p) l
 unfolding fresh sum
 ledger n p h l = omega (arith, ledger_from (fresh n p) l (sends_fresh n p h))

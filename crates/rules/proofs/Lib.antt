@@ -7,7 +7,6 @@ pub mod Allowed
 pub mod Receives
 pub mod Sends
 pub mod Rooms
-pub mod Ranges
 pub mod Runs
 pub mod Slots
 pub mod Slips
@@ -23,9 +22,7 @@ pub mod RoundTrip
 pub mod Replays
 pub mod Apart
 pub mod Settled
-pub mod Flagged
 pub mod Numbered
-pub mod Dynamic
 pub mod Seventeen
 pub mod FalseAlarms
 pub mod Ledger

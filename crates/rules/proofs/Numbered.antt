@@ -3,15 +3,13 @@ use mathlib.Core.Path.{◌≡◌, refl, sym, ap, ◌∙◌}
 use mathlib.Core.Bool.{Bool, true, false, not, cond}
 use mathlib.Core.List.{List, [], ◌∷◌, ◌++◌, map}
 use mathlib.Core.Logic.{◌≢◌, inl, inr}
-use Prim.Native.Nat.{ℕ, ◌<◌}
-use native.Mathlib.Omega.{arith}
+use Prim.Native.Nat.{ℕ}
 use lib.Dec.{leb, ltb}
 use lib.ListN.{length, get_or, drop}
 use Rattle.lists.specs.Lists.{update}
-use Rattle.promise.specs.Outcome.{Outcome, Refused, Done, Refusals, unless, first_of, on_paper, within, answering}
+use Rattle.promise.specs.Outcome.{Outcome, Refused, Done, Refusals, unless, first_of, on_paper, within}
 use Rattle.promise.proofs.Refusing.{unless_both, refused_or, first_refuses}
-use Rattle.promise.proofs.Outcomes.{unless_within, unless_answering}
-use Rattle.promise.proofs.Meeting.{never_both}
+use Rattle.promise.proofs.Outcomes.{unless_within}
 use Rattle.rules.specs.Numbers.{longest_log}
 use Rattle.rules.specs.Receiver.{Receiver, verdict, acked, judged}
 use Rattle.rules.specs.Receiving as receiving
@@ -19,9 +17,7 @@ use Rattle.rules.specs.Sender.{Sender, index, with_entries, sent}
 use Rattle.rules.specs.Retire.{report, acknowledged}
 use Rattle.rules.specs.Marks.{markable, with_mark, mark, nacked, resent}
 use Rattle.rules.specs.Sending as sending
-use Rattle.rules.specs.Connection.{Connection, start, start_refusals, close, close_refusals, set_mpr, set_mpr_refusals, sends, step, with_receiver, fresh, empty}
-use Rattle.rules.specs.Connection.{sent as sent_by}
-use Rattle.rules.specs.Mpr.{flag, flagged}
+use Rattle.rules.specs.Connection.{Connection, start, start_refusals, close, close_refusals, step, with_sender, with_receiver, fresh, empty}
 use Rattle.rules.specs.Table.{at, taken_refusals, in_slot, on_refusals, on}
 use Rattle.rules.specs.Kinds.{kind_of, fields_of, layout, kind_ok}
 use Rattle.rules.specs.Paper.{paper, read_line, written_line}
@@ -41,20 +37,15 @@ use Rattle.rules.specs.declared.Event.TheVariants as event
 use Rattle.rules.specs.declared.Read.TheVariants.{Record, Nothing}
 use Rattle.rules.specs.declared.Written.{Written}
 use Rattle.rules.specs.declared.Written.TheVariants as writing
-use Rattle.rules.proofs.Flagged.{same_or_sack}
-
--- an answer that is no refusal: its number is 0, and it has a kind
-abbrev pub NoRefusal : Answer → Type 0
-NoRefusal a = ((paper a).number ≡ 0) × (0 < (paper a).kind)
 
 -- ---- what is done where nothing refuses: its answer is no refusal
 pub record Does {S : Type 0} (o : Outcome Answer S) : Type 0 where
   pub state : S
   pub said : Answer
   pub is : o ≡ Done state said
-  pub none : NoRefusal said
+  pub none : (paper said).number ≡ 0
 
-does : {S : Type 0} (y : S) (a : Answer) → NoRefusal a → Does (Done y a)
+does : {S : Type 0} (y : S) (a : Answer) → (paper a).number ≡ 0 → Does (Done y a)
 does y a n = record { state = y; said = a; is = refl; none = n }
 
 does_either : {S : Type 0} (b : Bool) (o q : Outcome Answer S) → Does o → Does q → Does (cond b o q)
@@ -81,20 +72,6 @@ splits_within f l o s = record {
   done = does_within f s.otherwise s.done;
 }
 
-splits_answering : {S : Type 0} (f : Answer → Answer) → ((a : Answer) → NoRefusal a → NoRefusal (f a))
-    → (l : Refusals) (o : Outcome Answer S) → Splits l o → Splits l (answering f o)
-unfolding answering
-splits_answering f same l o s = record {
-  otherwise = answering f s.otherwise;
-  by_list = ap (answering f) s.by_list ∙ sym (unless_answering f l s.otherwise);
-  done = record {
-    state = s.done.state;
-    said = f s.done.said;
-    is = ap (answering f) s.done.is;
-    none = same s.done.said s.done.none;
-  };
-}
-
 splits_before : {S : Type 0} (l m : Refusals) (o : Outcome Answer S) → Splits m o → Splits (l ++ m) (unless l o)
 splits_before l m o s = record {
   otherwise = s.otherwise;
@@ -103,24 +80,16 @@ splits_before l m o s = record {
 }
 
 -- ---- each event
--- a flag makes no refusal
-flagged_done : (b : Bool) (a : Answer) → NoRefusal a → NoRefusal (flagged b a)
-unfolding flagged paper
-flagged_done b a h = elim (same_or_sack b a) [
-  | inl e ↦ rw e h
-  | inr k ↦ rw k.1 (refl, omega arith)
-]
-
-judged_done : (mpr : ℕ) (r : Receiver) (a : Arrival) (v : Verdict) → Does (judged mpr r a v)
+judged_done : (r : Receiver) (a : Arrival) (v : Verdict) → Does (judged r a v)
 unfolding judged acked paper
-judged_done mpr r a Fresh = does _ _ (refl, omega arith)
-judged_done mpr r a Known = does _ _ (refl, omega arith)
-judged_done mpr r a Beyond = does _ _ (refl, omega arith)
-judged_done mpr r a NoBuffer = does _ _ (refl, omega arith)
-judged_done mpr r a Trim = does _ _ (refl, omega arith)
-judged_done mpr r a TrimLastHop = does _ _ (refl, omega arith)
+judged_done r a Fresh = does _ _ refl
+judged_done r a Known = does _ _ refl
+judged_done r a Beyond = does _ _ refl
+judged_done r a NoBuffer = does _ _ refl
+judged_done r a Trim = does _ _ refl
+judged_done r a TrimLastHop = does _ _ refl
 
-mark_done : (tell : ℕ → Answer) → ((n : ℕ) → NoRefusal (tell n)) → (x : Sender) (p : ℕ) → Does (mark tell x p)
+mark_done : (tell : ℕ → Answer) → ((n : ℕ) → (paper (tell n)).number ≡ 0) → (x : Sender) (p : ℕ) → Does (mark tell x p)
 unfolding mark
 mark_done tell none x p =
     does_either (get_or (map markable x.entries) (index x p) false)
@@ -130,31 +99,28 @@ mark_done tell none x p =
 nacked_done : (x : Sender) (p reason : ℕ) → Does (nacked x p reason)
 unfolding nacked paper
 nacked_done x p reason =
-    does_either (leb reason 4) (mark answer.Marked x p) (Done x (answer.Marked 0)) (mark_done answer.Marked (λ n. (refl, omega arith)) x p) (does _ _ (refl, omega arith))
+    does_either (leb reason 4) (mark answer.Marked x p) (Done x (answer.Marked 0)) (mark_done answer.Marked (λ n. refl) x p) (does _ _ refl)
 
-pub sending_splits : (limit : ℕ) (x : Sender) (e : Sending) → Splits (sending.step_refusals limit x e) (sending.step limit x e)
+pub sending_splits : (x : Sender) (e : Sending) → Splits (sending.step_refusals x e) (sending.step x e)
 unfolding sending.step_refusals sending.step sending.send sending.sack sending.nack sending.timer sending.resend sent acknowledged report resent paper
-sending_splits limit x (sending_of.Send size) = splits (sending.send_refusals limit x size) _ (does _ _ (refl, omega arith))
-sending_splits limit x (sending_of.Sack cack b m) = splits (sending.sack_refusals x cack b) _ (does _ _ (refl, omega arith))
-sending_splits limit x (sending_of.Nack p reason) = splits (sending.nack_refusals x p reason) _ (nacked_done x p.0 reason)
-sending_splits limit x (sending_of.Timer p) = splits (sending.timer_refusals x p) _ (mark_done answer.Expired (λ n. (refl, omega arith)) x p.0)
-sending_splits limit x sending_of.Resend = splits (sending.resend_refusals limit x) _ (does _ _ (refl, omega arith))
+sending_splits x (sending_of.Send size) = splits (sending.send_refusals x size) _ (does _ _ refl)
+sending_splits x (sending_of.Sack cack b) = splits (sending.sack_refusals x cack b) _ (does _ _ refl)
+sending_splits x (sending_of.Nack p reason) = splits (sending.nack_refusals x p reason) _ (nacked_done x p.0 reason)
+sending_splits x (sending_of.Timer p) = splits (sending.timer_refusals x p) _ (mark_done answer.Expired (λ n. refl) x p.0)
+sending_splits x sending_of.Resend = splits (sending.resend_refusals x) _ (does _ _ refl)
 
 step_splits : (c : Connection) (u : Use) → Splits (use_refusals c u) (step c u)
-unfolding use_refusals step sends set_mpr close receiving.step receiving.arrive paper
-step_splits c use-of.Close = splits (close_refusals c) _ (does empty answer.Closed (refl, omega arith))
-step_splits c (use-of.Sends e) =
-    splits_answering (flagged (flag c.mpr e)) (flagged_done (flag c.mpr e)) _ _
-    (splits_within (sent_by c e) _ _ (sending_splits c.mpr.limit c.sender e))
+unfolding use_refusals step close receiving.step receiving.arrive paper
+step_splits c use-of.Close = splits (close_refusals c) _ (does empty answer.Closed refl)
+step_splits c (use-of.Sends e) = splits_within (with_sender c) _ _ (sending_splits c.sender e)
 step_splits c (use-of.Receives a) =
-    splits_within (with_receiver c) _ _ (splits (receiving.arrive_refusals c.receiver a) _ (judged_done c.mpr.told c.receiver a (verdict c.receiver a)))
-step_splits c (use-of.SetMpr v) = splits (set_mpr_refusals c v) _ (does _ answer.MprSet (refl, omega arith))
+    splits_within (with_receiver c) _ _ (splits (receiving.arrive_refusals c.receiver a) _ (judged_done c.receiver a (verdict c.receiver a)))
 
 pub event_splits : (t : List Connection) (slot : ℕ) (e : Event) → Splits (event_refusals t slot e) (on t slot e)
 unfolding event_refusals on in_slot start paper
 event_splits t slot (event.Start s) =
     let c = at t slot in
-    let starts = splits (start_refusals s) _ (does (fresh s) answer.Started (refl, omega arith)) in
+    let starts = splits (start_refusals s) _ (does (fresh s) answer.Started refl) in
     splits_before (on_refusals t slot) _ _ (splits_within _ _ _ (splits_before (taken_refusals c) _ _ starts))
 event_splits t slot (event.Use u) =
     let c = at t slot in
@@ -164,22 +130,11 @@ event_splits t slot (event.Use u) =
 module _ {S : Type 0} {l : Refusals} {o : Outcome Answer S} (s : Splits l o) where
   none_said : (on_paper paper s.otherwise).number ≡ 0
   unfolding on_paper
-  none_said = ap (λ (q : Outcome Answer S). (on_paper paper q).number) s.done.is ∙ s.done.none.0
+  none_said = ap (λ (q : Outcome Answer S). (on_paper paper q).number) s.done.is ∙ s.done.none
 
   -- its number on paper
   pub number_first : (on_paper paper o).number ≡ first_of l
   number_first = ap (λ (q : Outcome Answer S). (on_paper paper q).number) s.by_list ∙ first_refuses paper l s.otherwise none_said
-
-  -- what it says where it is done is no refusal
-  pub done_said : (y : S) (a : Answer) → o ≡ Done y a → (n : ℕ) → a ≡ answer.Refused n → ⊥
-  unfolding paper
-  done_said y a e n h = elim (refused_or l s.otherwise) [
-    | inl q ↦ never_both o y a q.0 e (s.by_list ∙ q.1)
-    | inr q ↦
-        let same : Done s.done.state s.done.said ≡ Done y a = sym (s.by_list ∙ q ∙ s.done.is) ∙ e in
-        let said : s.done.said ≡ a = cc in
-        omega (arith, s.done.none.1, ap (λ (b : Answer). (paper b).kind) (said ∙ h))
-  ]
 
   -- where it has one, it is a refusal
   pub numbered_refuses : (on_paper paper o).number ≢ 0 → (n : ℕ) × (o ≡ Refused n)

@@ -46,15 +46,15 @@ receives_counted r a k = record {
   count_low = omega arith;
 }
 
-receives_judged : (mpr : ℕ) (r : Receiver) (a : Arrival) (v : Verdict) → Receives r → After Receives r (judged mpr r a v)
+receives_judged : (r : Receiver) (a : Arrival) (v : Verdict) → Receives r → After Receives r (judged r a v)
 unfolding judged acked
-receives_judged mpr r a Fresh k = after_done Receives r _ _ (receives_counted _ a (receives_accept r a k))
-receives_judged mpr r a Known k = after_done Receives r _ _ (receives_counted r a k)
-receives_judged mpr r a Beyond k = after_done Receives r _ _ k
-receives_judged mpr r a NoBuffer k = after_done Receives r _ _ k
-receives_judged mpr r a Trim k = after_done Receives r _ _ k
-receives_judged mpr r a TrimLastHop k = after_done Receives r _ _ k
+receives_judged r a Fresh k = after_done Receives r _ _ (receives_counted _ a (receives_accept r a k))
+receives_judged r a Known k = after_done Receives r _ _ (receives_counted r a k)
+receives_judged r a Beyond k = after_done Receives r _ _ k
+receives_judged r a NoBuffer k = after_done Receives r _ _ k
+receives_judged r a Trim k = after_done Receives r _ _ k
+receives_judged r a TrimLastHop k = after_done Receives r _ _ k
 
-pub receives_step : (mpr : ℕ) (r : Receiver) (e : Receiving) → Receives r → After Receives r (step mpr r e)
+pub receives_step : (r : Receiver) (e : Receiving) → Receives r → After Receives r (step r e)
 unfolding step arrive
-receives_step mpr r a k = after_unless Receives r (arrive_refusals r a) _ k λ _. receives_judged mpr r a (verdict r a) k
+receives_step r a k = after_unless Receives r (arrive_refusals r a) _ k λ _. receives_judged r a (verdict r a) k

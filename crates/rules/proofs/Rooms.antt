@@ -37,18 +37,18 @@ room_accept r a =
     let w = set r.window (distance r.expected a.psn.0) true in
     length_slide (lead w) w (lead_le w) ∙ length-set r.window _ true
 
-room_judged : (mpr : ℕ) (r : Receiver) (a : Arrival) (v : Verdict) → After (SameRoom r) r (judged mpr r a v)
+room_judged : (r : Receiver) (a : Arrival) (v : Verdict) → After (SameRoom r) r (judged r a v)
 unfolding judged acked counted
-room_judged mpr r a Fresh = after_done (SameRoom r) r _ _ (room_accept r a)
-room_judged mpr r a Known = after_done (SameRoom r) r _ _ refl
-room_judged mpr r a Beyond = after_done (SameRoom r) r _ _ refl
-room_judged mpr r a NoBuffer = after_done (SameRoom r) r _ _ refl
-room_judged mpr r a Trim = after_done (SameRoom r) r _ _ refl
-room_judged mpr r a TrimLastHop = after_done (SameRoom r) r _ _ refl
+room_judged r a Fresh = after_done (SameRoom r) r _ _ (room_accept r a)
+room_judged r a Known = after_done (SameRoom r) r _ _ refl
+room_judged r a Beyond = after_done (SameRoom r) r _ _ refl
+room_judged r a NoBuffer = after_done (SameRoom r) r _ _ refl
+room_judged r a Trim = after_done (SameRoom r) r _ _ refl
+room_judged r a TrimLastHop = after_done (SameRoom r) r _ _ refl
 
-pub room_receiving : (mpr : ℕ) (r : Receiver) (e : Receiving) → After (SameRoom r) r (receiving.step mpr r e)
+pub room_receiving : (r : Receiver) (e : Receiving) → After (SameRoom r) r (receiving.step r e)
 unfolding receiving.step arrive
-room_receiving mpr r a = after_unless (SameRoom r) r (arrive_refusals r a) _ refl λ _. room_judged mpr r a (verdict r a)
+room_receiving r a = after_unless (SameRoom r) r (arrive_refusals r a) _ refl λ _. room_judged r a (verdict r a)
 
 -- ---- the sending side
 abbrev pub SameSpace : Sender → Sender → Type 0
@@ -65,23 +65,23 @@ unfolding nacked
 room_nacked x p reason =
     after_cond (SameSpace x) x (leb reason 4) _ _ (λ _. room_mark answer.Marked x p) (λ _. after_done (SameSpace x) x _ _ refl)
 
-pub room_sending : (limit : ℕ) (x : Sender) (e : Sending) → After (SameSpace x) x (step limit x e)
+pub room_sending : (x : Sender) (e : Sending) → After (SameSpace x) x (step x e)
 unfolding step send sack nack timer resend sent acknowledged after_sack settle resent with_entries
-room_sending limit x (sending.Send size) = after_unless (SameSpace x) x (send_refusals limit x size) _ refl λ _. after_done (SameSpace x) x _ _ refl
-room_sending limit x (sending.Sack cack b m) = after_unless (SameSpace x) x (sack_refusals x cack b) _ refl λ _. after_done (SameSpace x) x _ _ refl
-room_sending limit x (sending.Nack p reason) = after_unless (SameSpace x) x (nack_refusals x p reason) _ refl λ _. room_nacked x p.0 reason
-room_sending limit x (sending.Timer p) = after_unless (SameSpace x) x (timer_refusals x p) _ refl λ _. room_mark answer.Expired x p.0
-room_sending limit x sending.Resend = after_unless (SameSpace x) x (resend_refusals limit x) _ refl λ _. after_done (SameSpace x) x _ _ refl
+room_sending x (sending.Send size) = after_unless (SameSpace x) x (send_refusals x size) _ refl λ _. after_done (SameSpace x) x _ _ refl
+room_sending x (sending.Sack cack b) = after_unless (SameSpace x) x (sack_refusals x cack b) _ refl λ _. after_done (SameSpace x) x _ _ refl
+room_sending x (sending.Nack p reason) = after_unless (SameSpace x) x (nack_refusals x p reason) _ refl λ _. room_nacked x p.0 reason
+room_sending x (sending.Timer p) = after_unless (SameSpace x) x (timer_refusals x p) _ refl λ _. room_mark answer.Expired x p.0
+room_sending x sending.Resend = after_unless (SameSpace x) x (resend_refusals x) _ refl λ _. after_done (SameSpace x) x _ _ refl
 
 -- ---- an unused side refuses every event with 2
-pub unused_sending : (limit : ℕ) (x : Sender) (e : Sending) → unused x ≡ true → step limit x e ≡ Refused 2
+pub unused_sending : (x : Sender) (e : Sending) → unused x ≡ true → step x e ≡ Refused 2
 unfolding step send send_refusals sack sack_refusals nack nack_refusals timer timer_refusals resend resend_refusals unless
-unused_sending limit x (sending.Send size) u = rw u
-unused_sending limit x (sending.Sack cack b m) u = rw u
-unused_sending limit x (sending.Nack p reason) u = rw u
-unused_sending limit x (sending.Timer p) u = rw u
-unused_sending limit x sending.Resend u = rw u
+unused_sending x (sending.Send size) u = rw u
+unused_sending x (sending.Sack cack b) u = rw u
+unused_sending x (sending.Nack p reason) u = rw u
+unused_sending x (sending.Timer p) u = rw u
+unused_sending x sending.Resend u = rw u
 
-pub unused_receiving : (mpr : ℕ) (r : Receiver) (e : Receiving) → receiver.unused r ≡ true → receiving.step mpr r e ≡ Refused 2
+pub unused_receiving : (r : Receiver) (e : Receiving) → receiver.unused r ≡ true → receiving.step r e ≡ Refused 2
 unfolding receiving.step arrive arrive_refusals unless
-unused_receiving mpr r a u = rw u
+unused_receiving r a u = rw u

@@ -135,12 +135,12 @@ sends_resent x k =
     after_done Sends x _ _ (sends_marks x false (nearest x) k (all_update Good (with_mark false) x.entries (nearest x) good_unmark k.entries_good))
 
 -- ---- every event
-pub sends_step : (limit : ℕ) (x : Sender) (e : Sending) → Sends x → After Sends x (step limit x e)
+pub sends_step : (x : Sender) (e : Sending) → Sends x → After Sends x (step x e)
 unfolding step send send_refusals sack nack timer resend sent Past
-sends_step limit x (sending.Send size) k =
-    after_unless Sends x (send_refusals limit x size) _ k λ p.
+sends_step x (sending.Send size) k =
+    after_unless Sends x (send_refusals x size) _ k λ p.
     after_done Sends x _ _ (sends_new x size k (not-false (size_ok size) p.1.0) p.1.1.0)
-sends_step limit x (sending.Sack cack b m) k = after_unless Sends x (sack_refusals x cack b) _ k λ _. sends_acknowledged x cack.0 b k
-sends_step limit x (sending.Nack p reason) k = after_unless Sends x (nack_refusals x p reason) _ k λ _. sends_nacked x p.0 reason k
-sends_step limit x (sending.Timer p) k = after_unless Sends x (timer_refusals x p) _ k λ _. sends_mark answer.Expired x p.0 k
-sends_step limit x sending.Resend k = after_unless Sends x (resend_refusals limit x) _ k λ _. sends_resent x k
+sends_step x (sending.Sack cack b) k = after_unless Sends x (sack_refusals x cack b) _ k λ _. sends_acknowledged x cack.0 b k
+sends_step x (sending.Nack p reason) k = after_unless Sends x (nack_refusals x p reason) _ k λ _. sends_nacked x p.0 reason k
+sends_step x (sending.Timer p) k = after_unless Sends x (timer_refusals x p) _ k λ _. sends_mark answer.Expired x p.0 k
+sends_step x sending.Resend k = after_unless Sends x (resend_refusals x) _ k λ _. sends_resent x k

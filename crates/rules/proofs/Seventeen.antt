@@ -21,7 +21,7 @@ use Rattle.rules.proofs.Numbered.{number_first, sending_splits}
 -- "any SACK with a set bit" so, "checked after 5"
 unfoldable pub contradicted : Sender → Sending → Bool
 contradicted x (sending.Send size) = false
-contradicted x (sending.Sack cack b m) = contradicts cack.0 b && not (unused x) && psn_ok cack && psn_ok b.base
+contradicted x (sending.Sack cack b) = contradicts cack.0 b && not (unused x) && psn_ok cack && psn_ok b.base
 contradicted x (sending.Nack p reason) = false
 contradicted x (sending.Timer p) = false
 contradicted x sending.Resend = false
@@ -46,16 +46,16 @@ other [] h = refl
 other ((true, n) ∷ l) h = h.0
 other ((false, n) ∷ l) h = other l h.1
 
-by_list : (limit : ℕ) (x : Sender) (e : Sending) → eqb (first_of (step_refusals limit x e)) 17 ≡ contradicted x e
+by_list : (x : Sender) (e : Sending) → eqb (first_of (step_refusals x e)) 17 ≡ contradicted x e
 unfolding step_refusals send_refusals sack_refusals nack_refusals timer_refusals resend_refusals contradicted All
-by_list limit x (sending.Send size) = other (send_refusals limit x size) (refl, (refl, (refl, (refl, tt))))
-by_list limit x (sending.Sack cack b m) = five (contradicts cack.0 b) (unused x) (psn_ok cack) (psn_ok b.base) _
-by_list limit x (sending.Nack p reason) = other (nack_refusals x p reason) (refl, (refl, (refl, (refl, tt))))
-by_list limit x (sending.Timer p) = other (timer_refusals x p) (refl, (refl, (refl, tt)))
-by_list limit x sending.Resend = other (resend_refusals limit x) (refl, (refl, (refl, tt)))
+by_list x (sending.Send size) = other (send_refusals x size) (refl, (refl, (refl, tt)))
+by_list x (sending.Sack cack b) = five (contradicts cack.0 b) (unused x) (psn_ok cack) (psn_ok b.base) _
+by_list x (sending.Nack p reason) = other (nack_refusals x p reason) (refl, (refl, (refl, (refl, tt))))
+by_list x (sending.Timer p) = other (timer_refusals x p) (refl, (refl, (refl, tt)))
+by_list x sending.Resend = other (resend_refusals x) (refl, (refl, tt))
 
-pub seventeen : (limit : ℕ) (x : Sender) (e : Sending) → eqb (paper (answered (step limit x e))).number 17 ≡ contradicted x e
-seventeen limit x e =
-    let number : (paper (answered (step limit x e))).number ≡ first_of (step_refusals limit x e) =
-    ap (λ (l : Line). l.number) (sym (answered_paper (step limit x e))) ∙ number_first (sending_splits limit x e) in
-    ap (λ (n : ℕ). eqb n 17) number ∙ by_list limit x e
+pub seventeen : (x : Sender) (e : Sending) → eqb (paper (answered (step x e))).number 17 ≡ contradicted x e
+seventeen x e =
+    let number : (paper (answered (step x e))).number ≡ first_of (step_refusals x e) =
+    ap (λ (l : Line). l.number) (sym (answered_paper (step x e))) ∙ number_first (sending_splits x e) in
+    ap (λ (n : ℕ). eqb n 17) number ∙ by_list x e

@@ -20,16 +20,16 @@ use Rattle.promise.proofs.Outcomes.{After, after_unless, after_done}
 abbrev Same : Receiver → Receiver → Type 0
 Same r s = s ≡ r
 
-judged_trimmed : (mpr : ℕ) (r : Receiver) (a : Arrival) (t l k b n : Bool) → (t || l) ≡ true → After (Same r) r (judged mpr r a (judge t l k b n))
+judged_trimmed : (r : Receiver) (a : Arrival) (t l k b n : Bool) → (t || l) ≡ true → After (Same r) r (judged r a (judge t l k b n))
 unfolding judge judged
-judged_trimmed mpr r a true l k b n h = after_done (Same r) r _ _ refl
-judged_trimmed mpr r a false true k b n h = after_done (Same r) r _ _ refl
-judged_trimmed mpr r a false false k b n h = absurd (false≢true h)
+judged_trimmed r a true l k b n h = after_done (Same r) r _ _ refl
+judged_trimmed r a false true k b n h = after_done (Same r) r _ _ refl
+judged_trimmed r a false false k b n h = absurd (false≢true h)
 
-pub trimmed_keeps : (mpr : ℕ) (r : Receiver) (a : Arrival) → (trimmed a.flags || trimmed_last_hop a.flags) ≡ true → left r (arrive mpr r a) ≡ r
+pub trimmed_keeps : (r : Receiver) (a : Arrival) → (trimmed a.flags || trimmed_last_hop a.flags) ≡ true → left r (arrive r a) ≡ r
 unfolding arrive verdict
-trimmed_keeps mpr r a h =
-    let all : After (Same r) r (arrive mpr r a) = after_unless (Same r) r (arrive_refusals r a) _ refl λ _. judged_trimmed mpr r a _ _ _ _ _ h in
+trimmed_keeps r a h =
+    let all : After (Same r) r (arrive r a) = after_unless (Same r) r (arrive_refusals r a) _ refl λ _. judged_trimmed r a _ _ _ _ _ h in
     all.holds
 
 -- ---- "Reading a clear bitmap bit as loss, or un-retiring by it"

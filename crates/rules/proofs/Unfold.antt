@@ -2,7 +2,7 @@
 use Rattle.word.specs.Word.{bit_at}
 use Rattle.rules.specs.Numbers.{after, distance, room_ok, size_ok, flags_ok, reason_ok}
 use Rattle.lists.specs.Lists.{lead, slide, pack, any, sum, update}
-use Rattle.promise.specs.Outcome.{unless, first_of, left, within, answering}
+use Rattle.promise.specs.Outcome.{unless, first_of, left, within}
 use Rattle.fields.specs.Fields.{number, spell, joined, parted}
 use Rattle.fields.specs.Fields as fields
 use Rattle.rules.specs.Receiver as receiver
@@ -12,10 +12,9 @@ use Rattle.rules.specs.Retire.{any_set, at_odds, contradicts, unsent_cack, up_to
 use Rattle.rules.specs.Retire.{retire, over_newly, settle, after_sack, report, acknowledged}
 use Rattle.rules.specs.Marks.{mark, nacked, nearest, resent}
 use Rattle.rules.specs.Sending as sending
-use Rattle.rules.specs.Mpr as mpr
 use Rattle.rules.specs.Connection as connection
 use Rattle.rules.specs.Table.{outside, taken_refusals, in_slot, on_refusals, on, emptied}
-use Rattle.rules.specs.Kinds.{start_kind, sack_kind, kind_of, sack_field, fields_of, event_of, layouts, layout, width, event_width, widths, event_widths}
+use Rattle.rules.specs.Kinds.{kind_of, fields_of, event_of, layouts, layout, width, event_width, widths, event_widths}
 use Rattle.rules.specs.Paper.{code, paper, answered, read_line, written_line}
 use Rattle.rules.specs.Log.{encode, read_left, read, high_cell, high_psn, write, written}
 use Rattle.rules.specs.Refusals.{use_refusals, event_refusals, read_refusals, write_refusals}
@@ -24,7 +23,7 @@ use Rattle.rules.specs.Replay.{line, stop, then, replied, replay_from, replay}
 unfoldable pub rules : Unit {0}
 unfolding bit_at after distance room_ok size_ok flags_ok reason_ok
     lead slide pack any sum update
-    unless first_of left within answering
+    unless first_of left within
     number spell joined parted fields.encode fields.decode
     receiver.fresh receiver.start_refusals receiver.start receiver.judge receiver.known receiver.beyond receiver.verdict receiver.accept
     receiver.counted receiver.block_at receiver.block receiver.sack_of receiver.reason_of receiver.nack_of receiver.acked receiver.judged
@@ -36,11 +35,9 @@ unfolding bit_at after distance room_ok size_ok flags_ok reason_ok
     sending.send_refusals sending.send sending.sack_refusals sending.sack sending.nack_refusals sending.nack
     sending.timer_refusals sending.timer sending.resend_refusals sending.resend
     sending.step_refusals sending.step
-    mpr.largest mpr.fresh mpr.settable mpr.carried mpr.ahead mpr.takes mpr.taken mpr.heard mpr.flag mpr.flagged
-    connection.fresh connection.start_refusals connection.start connection.close_refusals connection.close
-    connection.set_mpr_refusals connection.set_mpr connection.sends connection.step
+    connection.fresh connection.start_refusals connection.start connection.close_refusals connection.close connection.step
     outside taken_refusals in_slot on_refusals on emptied
-    start_kind sack_kind kind_of sack_field fields_of event_of layouts layout width event_width widths event_widths
+    kind_of fields_of event_of layouts layout width event_width widths event_widths
     code paper answered read_line written_line
     encode read_left read high_cell high_psn write written
     use_refusals event_refusals read_refusals write_refusals

@@ -5,23 +5,47 @@ use Rattle.std.specs.Prelude.{◌≡◌, true, false, List, [], ◌∷◌, ◌++
 use Rattle.promise.specs.Line.{Line, refused, done}
 use Rattle.promise.specs.Outcome.{left}
 use Rattle.rules.specs.Numbers.{turn, half, after, psn}
-use Rattle.rules.specs.Receiver.{Receiver}
-use Rattle.rules.specs.Receiving.{arrive}
+use Rattle.lists.specs.Lists.{pack}
+use Rattle.rules.specs.Receiver.{Receiver, room}
+use Rattle.rules.specs.Receiving.{Arrive, arrive}
 use Rattle.rules.specs.Sender.{Sender}
 use Rattle.rules.specs.Retire.{report}
-use Rattle.rules.specs.Connection.{Connection, empty, start}
+use Rattle.rules.specs.Connection.{Connection, empty, start, step}
 use Rattle.rules.specs.Kinds.{plain}
-use Rattle.rules.specs.Paper.{paper, read_line}
+use Rattle.rules.specs.Paper.{answered, paper, read_line}
 use Rattle.rules.specs.Log.{read, whole}
 use Rattle.rules.specs.Replay.{Replied, Last, End, Log, replay}
-use Rattle.rules.specs.Rows.{R, S, Again, Late, HalfOf, Reason, Bit, Alarms, Row, lines, row_told, kept, row, look}
-use Rattle.rules.specs.Rows.{flagged, arrives, sacks, acked, nacked, retired, sends, nacks, expires, resends}
 use Rattle.rules.specs.Limits.{Limits}
-use Rattle.rules.specs.Falling.{Falling}
 use Rattle.rules.specs.declared.Report.{Report}
-use Rattle.rules.specs.declared.Sending.TheVariants.{Nack, Resend}
-use Rattle.rules.specs.declared.Use.TheVariants.{Sends}
+use Rattle.rules.specs.declared.Sending.TheVariants.{Send, Sack, Nack, Timer, Resend}
+use Rattle.rules.specs.declared.Use.{Use}
+use Rattle.rules.specs.declared.Use.TheVariants.{Sends, Receives}
 use Rattle.rules.specs.declared.Read.TheVariants.{Record, Nothing}
+
+-- a row's name on the bench: R1 to R6, S1 to S5, what is given before the first, and what follows the last: a packet that comes again, a
+-- SACK that comes late; a SACK of which half might be retired; a NACK's reason, which no line of a log shows; a SACK whose one set bit lies
+-- so far ahead of cack; and a SACK that finds so many false alarms
+pub data Label : Type 0 where
+  R : ℕ → Label
+  S : ℕ → Label
+  Given : Label
+  Again : Label
+  Late : Label
+  HalfOf : Label
+  Reason : ℕ → Label
+  Bit : ℕ → Label
+  Alarms : ℕ → Label
+
+-- what a row asks of the bench's connection: an event, or what its receiver keeps
+pub data Asked : Type 0 where
+  Event : Use → Asked
+  Look : Asked
+
+-- and the line that comes back
+pub record Row : Type 0 where
+  pub label : Label
+  pub asked : Asked
+  pub told : Line
 
 pub data Case : Type 0 where
   -- events one after the other
@@ -31,7 +55,18 @@ pub data Case : Type 0 where
   -- a log's answers, and its last line's numbers
   Answers : List ℕ → List Line → Case
 
+-- what a look gives: E, the room, the window's bits and the count
+abbrev pub kept : ℕ → ℕ → ℕ → ℕ → Line
+kept expected room window count = done 0 (expected ∷ room ∷ window ∷ count ∷ []) []
+
 -- ---- what the rules say
+unfoldable pub lines : Connection → List Row → List Line
+lines c [] = []
+lines c (r ∷ l) = elim r.asked [
+  | Event e ↦ paper (answered (step c e)) ∷ lines (left c (step c e)) l
+  | Look ↦ kept c.receiver.expected (room c.receiver) (pack c.receiver.window) c.receiver.count ∷ lines c l
+]
+
 -- "Receiver, room 64, first PSN 16,777,214"; "Sender, room 64, first PSN 10"
 unfoldable pub bench : Connection
 bench = left empty (start (record {
@@ -61,10 +96,53 @@ told (Records log l) = records (suc (length log)) log 0
 told (Answers log l) = answers (replay log).lines (replay log).last
 
 -- ---- what the bench says
+abbrev pub row_told : Row → Line
+row_told r = r.told
+
 unfoldable pub expected : Case → List Line
 expected (Events l) = map row_told l
 expected (Records log l) = l
 expected (Answers log l) = l
+
+abbrev pub row : Label → Use → Line → Row
+row l e t = record { label = l; asked = Event e; told = t }
+
+abbrev pub look : Label → Line → Row
+look l t = record { label = l; asked = Look; told = t }
+
+-- an arrival of 100 bytes with these flags, and with none
+abbrev pub flagged : ℕ → ℕ → Use
+flagged flags p = Receives (Arrive (record { psn = psn p; size = 100; flags = flags; entropy = 7 }))
+
+abbrev pub arrives : ℕ → Use
+arrives p = flagged 0 p
+
+abbrev pub sacks : ℕ → ℕ → ℕ → Use
+sacks cack base bitmap = Sends (Sack (psn cack) (record { base = psn base; bitmap = bitmap }))
+
+-- the arrival answer, cack, base, bitmap and count / 256 of a SACK; the arrival answer, PSN and reason of a NACK
+abbrev pub acked : ℕ → ℕ → ℕ → ℕ → ℕ → Line
+acked v cack base bitmap count = done 4 (v ∷ cack ∷ base ∷ bitmap ∷ count ∷ 7 ∷ 0 ∷ 0 ∷ []) (0 ∷ [])
+
+abbrev pub nacked : ℕ → ℕ → ℕ → Line
+nacked v p reason = done 4 (v ∷ p ∷ 7 ∷ 0 ∷ []) (reason ∷ [])
+
+-- newly retired, the place, held bytes and false alarms
+abbrev pub retired : ℕ → ℕ → ℕ → ℕ → Line
+retired newly place held alarms = done 5 (newly ∷ place ∷ held ∷ alarms ∷ []) []
+
+-- 100 bytes are sent as p; p is marked by a NACK, or by a timer; p is resent
+abbrev pub sends : ℕ → Row
+sends p = row Given (Sends (Send 100)) (done 3 (p ∷ []) [])
+
+abbrev pub nacks : ℕ → Row
+nacks p = row Given (Sends (Nack (psn p) 1)) (done 6 (1 ∷ []) [])
+
+abbrev pub expires : ℕ → Row
+expires p = row Given (Sends (Timer (psn p))) (done 7 (1 ∷ []) [])
+
+abbrev pub resends : ℕ → Row
+resends p = row Given (Sends Resend) (done 8 (p ∷ []) [])
 
 -- R1 to R6, and then 63 once more, which is accepted and still in the window
 abbrev pub receiving : List Row
@@ -213,7 +291,7 @@ nearly_wrapped = record { expected = 0; window = replicate 64 false; count = 429
 
 -- the count that 100 bytes leave there
 abbrev pub wrapped : ℕ → ℕ
-wrapped p = (left nearly_wrapped (arrive 0 nearly_wrapped (record { psn = psn p; size = 100; flags = 0; entropy = 7 }))).count
+wrapped p = (left nearly_wrapped (arrive nearly_wrapped (record { psn = psn p; size = 100; flags = 0; entropy = 7 }))).count
 
 -- a sender with one packet outstanding, 10, which is marked; and what it reports of cack 10 with the bit for 10 set. A SACK that says so is
 -- refused with 17 before it is reported (02, No. 3), so no event shows it
@@ -225,12 +303,10 @@ named_twice = report one_marked 10 (record { base = psn 10; bitmap = 1 })
 
 -- the one claim: each case is answered as it says. "Whole lengths: 14, 4, 6, 14, 18, 8, 7, 4" stands beside it, and the wrap of the
 -- count by a fresh packet and by a known one, and that a packet which cack and a bit name is counted once; and rooms and slots
--- at their limits (02, No. 6), and the MPR's rise and fall (02, No. 7).
+-- at their limits (02, No. 6).
 pub record Starred : Type 0 where
   pub as_worked : map told cases ≡ map expected cases
   pub count_wraps : map wrapped (0 ∷ 16777215 ∷ []) ≡ 99 ∷ 99 ∷ []
-  pub counted_once : named_twice ≡ record { newly = 1; place = psn 10; held = 0; alarms = 1; flag = false }
+  pub counted_once : named_twice ≡ record { newly = 1; place = psn 10; held = 0; alarms = 1 }
   pub limits : Limits
-  pub falling : Falling
   pub lengths : map whole (1 ∷ 2 ∷ 3 ∷ 4 ∷ 5 ∷ 6 ∷ 7 ∷ 8 ∷ []) ≡ 14 ∷ 4 ∷ 6 ∷ 14 ∷ 18 ∷ 8 ∷ 7 ∷ 4 ∷ []
-  pub later_lengths : map whole (9 ∷ 10 ∷ 11 ∷ []) ≡ 14 ∷ 5 ∷ 19 ∷ []

@@ -5,8 +5,6 @@ use Rattle.rules.specs.Receiver.{Receiver, room}
 use Rattle.rules.specs.Sender.{Entry, Sender, outstanding}
 use Rattle.rules.specs.Retire.{is_retired}
 use Rattle.lists.specs.Lists.{All}
-use Rattle.rules.specs.Mpr.{largest}
-use Rattle.rules.specs.declared.Mpr.{Mpr}
 use Rattle.rules.specs.Connection.{Connection, empty}
 use Rattle.rules.specs.Table.{at}
 
@@ -30,19 +28,9 @@ pub record Sends (x : Sender) : Type 0 where
   pub first_open : get_or (map is_retired x.entries) 0 false ≡ false
   pub entries_good : All Good x.entries
 
--- 02, No. 7, between rooms of so many: the sender's present MPR is at least 1 and at most its room, and its room where the feature is off; the
--- value told is one that the host may set, and 0 where the feature is off
-pub record Ranges (send_room receive_room : ℕ) (m : Mpr) : Type 0 where
-  pub limit_some : 0 < m.limit
-  pub limit_low : m.limit ≤ send_room
-  pub limit_off : m.dynamic ≡ false → m.limit ≡ send_room
-  pub told_on : m.dynamic ≡ true → (0 < m.told) × (m.told ≤ largest receive_room)
-  pub told_off : m.dynamic ≡ false → m.told ≡ 0
-
 pub record Runs (c : Connection) : Type 0 where
   pub sends : Sends c.sender
   pub receives : Receives c.receiver
-  pub ranges : Ranges c.sender.room (room c.receiver) c.mpr
 
 -- empty, or in use on both sides
 abbrev pub Whole : Connection → Type 0

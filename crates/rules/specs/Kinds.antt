@@ -1,11 +1,9 @@
 -- 01, The event log: "An event is of one of these kinds and has only its fields". Four tables go by kind and nothing else does: an event's
 -- kind, its fields, the event that a kind and fields make, and how wide each field is.
-use Rattle.std.specs.Prelude.{Bool, true, false, cond, ◌&&◌, List, [], ◌∷◌, map, ℕ, leb, ltb, length, get_or}
+use Rattle.std.specs.Prelude.{Bool, ◌&&◌, List, [], ◌∷◌, map, ℕ, leb, ltb, length, get_or}
 use Rattle.fields.specs.Fields.{Fits}
 use Rattle.rules.specs.Numbers.{psn}
 use Rattle.rules.specs.declared.Options.{Options}
-use Rattle.rules.specs.declared.Carried.{Carried}
-use Rattle.rules.specs.declared.Carried.TheVariants as carried
 use Rattle.rules.specs.declared.Sending.TheVariants as sending
 use Rattle.rules.specs.declared.Use.TheVariants as use-of
 use Rattle.rules.specs.declared.Event.{Event}
@@ -14,55 +12,30 @@ use Rattle.rules.specs.declared.Cell.{Cell}
 use Rattle.rules.specs.declared.Cell.TheVariants as cell
 
 -- "1 start: send room 2, send PSN, receive room 2, receive PSN. 2 close. 3 send: size 2. 4 arrive: PSN, size 2, flags 1, entropy 4.
--- 5 SACK: cack, base, bitmap 8. 6 NACK: PSN, reason 1. 7 timer: PSN. 8 resend." With 02, No. 7: 9 start with dynamic MPR, the fields of 1;
--- 10 set MPR: MPR 1; 11 SACK with MPR: cack, base, bitmap 8, MPR 1; "kind 5 carrying 0"
-unfoldable pub start_kind : Options → ℕ
-start_kind o = cond o.dynamic 9 1
-
-unfoldable pub sack_kind : Carried → ℕ
-sack_kind carried.Unwritten = 5
-sack_kind (carried.Value v) = 11
-
+-- 5 SACK: cack, base, bitmap 8. 6 NACK: PSN, reason 1. 7 timer: PSN. 8 resend."
 unfoldable pub kind_of : Event → ℕ
-kind_of (event.Start s) = start_kind s.options
+kind_of (event.Start s) = 1
 kind_of (event.Use use-of.Close) = 2
 kind_of (event.Use (use-of.Sends (sending.Send z))) = 3
 kind_of (event.Use (use-of.Receives a)) = 4
-kind_of (event.Use (use-of.Sends (sending.Sack c b m))) = sack_kind m
+kind_of (event.Use (use-of.Sends (sending.Sack c b))) = 5
 kind_of (event.Use (use-of.Sends (sending.Nack p n))) = 6
 kind_of (event.Use (use-of.Sends (sending.Timer p))) = 7
 kind_of (event.Use (use-of.Sends sending.Resend)) = 8
-kind_of (event.Use (use-of.SetMpr v)) = 10
-
-unfoldable pub sack_field : Carried → List ℕ
-sack_field carried.Unwritten = []
-sack_field (carried.Value v) = v ∷ []
 
 unfoldable pub fields_of : Event → List ℕ
 fields_of (event.Start s) = s.sending.room ∷ s.sending.first.0 ∷ s.receiving.room ∷ s.receiving.first.0 ∷ []
 fields_of (event.Use use-of.Close) = []
 fields_of (event.Use (use-of.Sends (sending.Send z))) = z ∷ []
 fields_of (event.Use (use-of.Receives a)) = a.psn.0 ∷ a.size ∷ a.flags ∷ a.entropy ∷ []
-fields_of (event.Use (use-of.Sends (sending.Sack c b m))) = c.0 ∷ b.base.0 ∷ b.bitmap ∷ sack_field m
+fields_of (event.Use (use-of.Sends (sending.Sack c b))) = c.0 ∷ b.base.0 ∷ b.bitmap ∷ []
 fields_of (event.Use (use-of.Sends (sending.Nack p n))) = p.0 ∷ n ∷ []
 fields_of (event.Use (use-of.Sends (sending.Timer p))) = p.0 ∷ []
 fields_of (event.Use (use-of.Sends sending.Resend)) = []
-fields_of (event.Use (use-of.SetMpr v)) = v ∷ []
 
 -- a connection without options
 abbrev pub plain : Options
-plain = record { dynamic = false }
-
-abbrev pub with_mpr : Options
-with_mpr = record { dynamic = true }
-
--- a start with these fields, and a SACK
-abbrev pub start_of : ℕ → ℕ → ℕ → ℕ → Options → Event
-start_of a b c d o =
-    event.Start (record { sending = record { room = a; first = psn b }; receiving = record { room = c; first = psn d }; options = o })
-
-abbrev pub sack_of : ℕ → ℕ → ℕ → Carried → Event
-sack_of a b c m = event.Use (use-of.Sends (sending.Sack (psn a) (record { base = psn b; bitmap = c }) m))
+plain = record {}
 
 -- the event of a kind with these fields
 unfoldable pub event_of : ℕ → List ℕ → Event
@@ -73,21 +46,18 @@ event_of kind l =
     let d = get_or l 3 0 in
     get_or
     (event.Use use-of.Close
-    ∷ start_of a b c d plain
+    ∷ event.Start (record { sending = record { room = a; first = psn b }; receiving = record { room = c; first = psn d }; options = plain })
     ∷ event.Use use-of.Close
     ∷ event.Use (use-of.Sends (sending.Send a))
     ∷ event.Use (use-of.Receives (record { psn = psn a; size = b; flags = c; entropy = d }))
-    ∷ sack_of a b c carried.Unwritten
+    ∷ event.Use (use-of.Sends (sending.Sack (psn a) (record { base = psn b; bitmap = c })))
     ∷ event.Use (use-of.Sends (sending.Nack (psn a) b))
     ∷ event.Use (use-of.Sends (sending.Timer (psn a)))
     ∷ event.Use (use-of.Sends sending.Resend)
-    ∷ start_of a b c d with_mpr
-    ∷ event.Use (use-of.SetMpr a)
-    ∷ sack_of a b c (carried.Value d)
     ∷ [])
     kind (event.Use use-of.Close)
 
--- the fields of kinds 0 to 11; there is no kind 0
+-- the fields of kinds 0 to 8; there is no kind 0
 unfoldable pub layouts : List (List Cell)
 layouts =
     []
@@ -99,9 +69,6 @@ layouts =
     ∷ (cell.Psn ∷ cell.Bits 8 ∷ [])
     ∷ (cell.Psn ∷ [])
     ∷ []
-    ∷ (cell.Bits 16 ∷ cell.Psn ∷ cell.Bits 16 ∷ cell.Psn ∷ [])
-    ∷ (cell.Bits 8 ∷ [])
-    ∷ (cell.Psn ∷ cell.Psn ∷ cell.Bits 64 ∷ cell.Bits 8 ∷ [])
     ∷ []
 
 unfoldable pub layout : ℕ → List Cell

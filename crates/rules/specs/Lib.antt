@@ -1,5 +1,5 @@
 -- Document 01 as definitions, in its own order, as the requests of document 02 amend it (No. 3: a SACK that contradicts itself; No. 4: the
--- count; No. 6: longer pipes; No. 7: dynamic MPR; No. 8: false alarms). Nothing here is proved or run: proofs/ has the theorems.
+-- count; No. 6: longer pipes; No. 8: false alarms). Nothing here is proved or run: proofs/ has the theorems.
 pub mod Numbers
 pub mod Receiver
 pub mod Receiving
@@ -7,17 +7,13 @@ pub mod Sender
 pub mod Retire
 pub mod Marks
 pub mod Sending
-pub mod Mpr
 pub mod Connection
 pub mod Table
 pub mod Kept
-pub mod Dynamic
 pub mod Kinds
 pub mod Paper
 pub mod Log
 pub mod Refusals
 pub mod Replay
 pub mod Limits
-pub mod Rows
-pub mod Falling
 pub mod Bench

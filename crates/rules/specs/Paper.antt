@@ -1,5 +1,5 @@
 -- What an answer is on paper: this document's number, and the values beside it, for each case of each answer.
-use Rattle.std.specs.Prelude.{Bool, cond, List, [], ◌∷◌, ℕ, eqb}
+use Rattle.std.specs.Prelude.{Bool, cond, [], ◌∷◌, ℕ}
 use Rattle.promise.specs.Line.{Line, refused, done}
 use Rattle.promise.specs.Outcome.{Outcome, Refused, Done}
 use Rattle.rules.specs.Kinds.{kind_of, fields_of}
@@ -15,10 +15,6 @@ use Rattle.rules.specs.declared.Written.TheVariants as writing
 abbrev pub digit : Bool → ℕ
 digit b = cond b 1 0
 
--- 02, No. 7: a value that stands on a line only where it is not 0
-abbrev pub nonzero : ℕ → List ℕ
-nonzero n = cond (eqb n 0) [] (n ∷ [])
-
 -- 01, The receiving side, rules 1 to 5: the arrival answer
 unfoldable pub code : Verdict → ℕ
 code Fresh = 0
@@ -30,7 +26,7 @@ code TrimLastHop = 5
 
 -- "send the PSN; arrive 0 or 1: the arrival answer, cack, base, bitmap, count / 256, entropy, RTX, mark; arrive 2 to 5: arrival answer,
 -- PSN, entropy, RTX; SACK: newly retired, place, held bytes; NACK and timer: newly marked; resend: PSN". 02, No. 8: the false alarms "as a
--- fourth value, on the program's line too". 02, No. 7: a SACK's MPR last where it is not 0, the flag last where it is set
+-- fourth value, on the program's line too"
 unfoldable pub paper : Answer → Line
 paper (answer.Refused n) = refused n
 paper answer.Started = done 1 [] []
@@ -38,14 +34,13 @@ paper answer.Closed = done 2 [] []
 paper (answer.Sent p) = done 3 (p.0 ∷ []) []
 paper (answer.Acked v k) =
     done 4
-    (code v ∷ k.cack.0 ∷ k.block.base.0 ∷ k.block.bitmap ∷ k.count ∷ k.entropy ∷ digit k.rtx ∷ digit k.mark ∷ nonzero k.mpr)
-    []
+    (code v ∷ k.cack.0 ∷ k.block.base.0 ∷ k.block.bitmap ∷ k.count ∷ k.entropy ∷ digit k.rtx ∷ digit k.mark ∷ [])
+    (k.mpr ∷ [])
 paper (answer.Nacked v k) = done 4 (code v ∷ k.psn.0 ∷ k.entropy ∷ digit k.rtx ∷ []) (k.reason ∷ [])
-paper (answer.Retired k) = done 5 (k.newly ∷ k.place.0 ∷ k.held ∷ k.alarms ∷ nonzero (digit k.flag)) []
+paper (answer.Retired k) = done 5 (k.newly ∷ k.place.0 ∷ k.held ∷ k.alarms ∷ []) []
 paper (answer.Marked n) = done 6 (n ∷ []) []
 paper (answer.Expired n) = done 7 (n ∷ []) []
 paper (answer.Resent p) = done 8 (p.0 ∷ []) []
-paper answer.MprSet = done 10 [] []
 
 -- the answer of an outcome
 unfoldable pub answered : {S : Type 0} → Outcome Answer S → Answer

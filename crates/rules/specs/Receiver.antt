@@ -85,13 +85,13 @@ block r p =
     record { base = psn (after r.expected o); bitmap = pack (take 64 (drop o r.window)) }
 
 -- "The SACK gives cack = E - 1, the count divided by 256 (24 bits), MPR 0, and a block"; "Both copy entropy and RTX; only the SACK
--- has the ECN mark". The record is the one after the event. 02, No. 7: the MPR is the value given, 0 where the feature is off.
-unfoldable pub sack_of : ℕ → Receiver → Arrival → Sack
-sack_of mpr r a = record {
+-- has the ECN mark". The record is the one after the event.
+unfoldable pub sack_of : Receiver → Arrival → Sack
+sack_of r a = record {
   cack = psn (before r.expected);
   block = block r a.psn.0;
   count = r.count / 256;
-  mpr = mpr;
+  mpr = 0;
   entropy = a.entropy;
   rtx = rtx a.flags;
   mark = ecn a.flags;
@@ -111,14 +111,14 @@ unfoldable pub nack_of : Verdict → Arrival → Nack
 nack_of v a = record { psn = a.psn; reason = reason_of v; entropy = a.entropy; rtx = rtx a.flags }
 
 -- "Answers 0 and 1 bring a SACK": the size is counted, and the SACK is that of the record after it
-unfoldable pub acked : ℕ → Receiver → Arrival → Verdict → Outcome Answer Receiver
-acked mpr r a v = let r' = counted r a in Done r' (answer.Acked v (sack_of mpr r' a))
+unfoldable pub acked : Receiver → Arrival → Verdict → Outcome Answer Receiver
+acked r a v = let r' = counted r a in Done r' (answer.Acked v (sack_of r' a))
 
 -- a fresh packet is accepted and counted, a known one is counted and changes nothing else; "the others a NACK", and "Record unchanged"
-unfoldable pub judged : ℕ → Receiver → Arrival → Verdict → Outcome Answer Receiver
-judged mpr r a Fresh = acked mpr (accept r a) a Fresh
-judged mpr r a Known = acked mpr r a Known
-judged mpr r a Beyond = Done r (answer.Nacked Beyond (nack_of Beyond a))
-judged mpr r a NoBuffer = Done r (answer.Nacked NoBuffer (nack_of NoBuffer a))
-judged mpr r a Trim = Done r (answer.Nacked Trim (nack_of Trim a))
-judged mpr r a TrimLastHop = Done r (answer.Nacked TrimLastHop (nack_of TrimLastHop a))
+unfoldable pub judged : Receiver → Arrival → Verdict → Outcome Answer Receiver
+judged r a Fresh = acked (accept r a) a Fresh
+judged r a Known = acked r a Known
+judged r a Beyond = Done r (answer.Nacked Beyond (nack_of Beyond a))
+judged r a NoBuffer = Done r (answer.Nacked NoBuffer (nack_of NoBuffer a))
+judged r a Trim = Done r (answer.Nacked Trim (nack_of Trim a))
+judged r a TrimLastHop = Done r (answer.Nacked TrimLastHop (nack_of TrimLastHop a))

@@ -1,5 +1,5 @@
 -- 01, The receiving side: its events, each with its refusals in order.
-use Rattle.std.specs.Prelude.{not, [], ◌∷◌, ℕ}
+use Rattle.std.specs.Prelude.{not, [], ◌∷◌}
 use Rattle.promise.specs.Outcome.{Outcome, Refusals, unless}
 use Rattle.rules.specs.Numbers.{psn_ok, size_ok, flags_ok}
 use Rattle.rules.specs.Receiver.{Receiver, unused, verdict, judged}
@@ -10,9 +10,8 @@ use Rattle.rules.specs.declared.Arrival.{Arrival}
 unfoldable pub arrive_refusals : Receiver → Arrival → Refusals
 arrive_refusals r a = (unused r, 2) ∷ (not (psn_ok a.psn), 5) ∷ (not (size_ok a.size), 6) ∷ (not (flags_ok a.flags), 14) ∷ []
 
--- an arrival, whose SACK carries the MPR given
-unfoldable pub arrive : ℕ → Receiver → Arrival → Outcome Answer Receiver
-arrive mpr r a = unless (arrive_refusals r a) (judged mpr r a (verdict r a))
+unfoldable pub arrive : Receiver → Arrival → Outcome Answer Receiver
+arrive r a = unless (arrive_refusals r a) (judged r a (verdict r a))
 
 -- an event of the receiving side: an arrival is the only one
 abbrev pub Receiving : Type 0
@@ -21,5 +20,5 @@ Receiving = Arrival
 abbrev pub Arrive : Arrival → Receiving
 Arrive a = a
 
-unfoldable pub step : ℕ → Receiver → Receiving → Outcome Answer Receiver
-step mpr r a = arrive mpr r a
+unfoldable pub step : Receiver → Receiving → Outcome Answer Receiver
+step r a = arrive r a

@@ -4,7 +4,7 @@ use Rattle.promise.specs.Outcome.{Refusals}
 use Rattle.rules.specs.Numbers.{longest_log}
 use Rattle.rules.specs.Receiving.{arrive_refusals}
 use Rattle.rules.specs.Sending.{step_refusals}
-use Rattle.rules.specs.Connection.{Connection, start_refusals, close_refusals, set_mpr_refusals}
+use Rattle.rules.specs.Connection.{Connection, start_refusals, close_refusals}
 use Rattle.rules.specs.Table.{at, taken_refusals, on_refusals}
 use Rattle.rules.specs.Kinds.{kind_of, fields_of, layout, kind_ok}
 use Rattle.rules.specs.Log.{whole, has_mark, high_psn}
@@ -16,12 +16,10 @@ use Rattle.rules.specs.declared.Event.TheVariants as event
 -- what befalls a connection in use
 unfoldable pub use_refusals : Connection → Use → Refusals
 use_refusals c use-of.Close = close_refusals c
-use_refusals c (use-of.Sends e) = step_refusals c.mpr.limit c.sender e
+use_refusals c (use-of.Sends e) = step_refusals c.sender e
 use_refusals c (use-of.Receives a) = arrive_refusals c.receiver a
-use_refusals c (use-of.SetMpr v) = set_mpr_refusals c v
 
--- an event on a slot: "Order: 1, 2 or 3, 4, 5, 6, 14, 15, then 7, 8 or 9", with 17 "after 5 and before 8" (02, No. 3), 18 after
--- 9, and 23 after 2 (02, No. 7)
+-- an event on a slot: "Order: 1, 2 or 3, 4, 5, 6, 14, 15, then 7, 8 or 9", with 17 "after 5 and before 8" (02, No. 3)
 unfoldable pub event_refusals : List Connection → ℕ → Event → Refusals
 event_refusals t slot (event.Start s) = on_refusals t slot ++ (taken_refusals (at t slot) ++ start_refusals s)
 event_refusals t slot (event.Use u) = on_refusals t slot ++ use_refusals (at t slot) u

@@ -84,13 +84,12 @@ newly f l = over_newly (λ e. 1) f l
 abbrev pub false_alarms : (ℕ → Bool) → List Entry → ℕ
 false_alarms f l = over_newly (λ e. cond e.marked 1 0) f l
 
--- "The answer is the count of packets newly retired .., then the place and held bytes", and the false alarms "as a fourth value" (02, No. 8).
--- The flag of 02, No. 7 stands beside it: the sender by itself has none (`flagged` of Mpr)
+-- "The answer is the count of packets newly retired .., then the place and held bytes", and the false alarms "as a fourth value" (02, No. 8)
 unfoldable pub report : Sender → ℕ → Block → Report
 report x cack b =
     let f = named x cack b in
     let y = after_sack x cack b in
-    record { newly = newly f x.entries; place = psn y.place; held = held y; alarms = false_alarms f x.entries; flag = false }
+    record { newly = newly f x.entries; place = psn y.place; held = held y; alarms = false_alarms f x.entries }
 
 unfoldable pub acknowledged : Sender → ℕ → Block → Outcome Answer Sender
 acknowledged x cack b = Done (after_sack x cack b) (answer.Retired (report x cack b))

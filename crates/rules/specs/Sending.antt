@@ -12,13 +12,12 @@ use Rattle.rules.specs.declared.Sending.{Sending}
 use Rattle.rules.specs.declared.Sending.TheVariants as sending
 use Rattle.psn.specs.declared.Psn.{Psn}
 
--- refusals 2, 6, 7: "gives the next PSN unless it would pass place + room", and with 02, No. 7 "place + MPR", which is the limit given
-unfoldable pub send_refusals : ℕ → Sender → ℕ → Refusals
-send_refusals limit x size =
-    (unused x, 2) ∷ (not (size_ok size), 6) ∷ (leb x.room (outstanding x), 7) ∷ (leb limit (outstanding x), 7) ∷ []
+-- refusals 2, 6, 7: "gives the next PSN unless it would pass place + room"
+unfoldable pub send_refusals : Sender → ℕ → Refusals
+send_refusals x size = (unused x, 2) ∷ (not (size_ok size), 6) ∷ (leb x.room (outstanding x), 7) ∷ []
 
-unfoldable pub send : ℕ → Sender → ℕ → Outcome Answer Sender
-send limit x size = unless (send_refusals limit x size) (sent x size)
+unfoldable pub send : Sender → ℕ → Outcome Answer Sender
+send x size = unless (send_refusals x size) (sent x size)
 
 -- refusals 2, 5, 17, 8; 17 "is checked after 5 and before 8" (02, No. 3)
 unfoldable pub sack_refusals : Sender → Psn → Block → Refusals
@@ -42,25 +41,24 @@ timer_refusals x p = (unused x, 2) ∷ (not (psn_ok p), 5) ∷ (unsent x p.0, 8)
 unfoldable pub timer : Sender → Psn → Outcome Answer Sender
 timer x p = unless (timer_refusals x p) (mark answer.Expired x p.0)
 
--- refusals 2, 9, 18: "9 stays for none marked"; 18 "exactly when some are marked and none is in that range" (02, No. 7), so not the nearest
-unfoldable pub resend_refusals : ℕ → Sender → Refusals
-resend_refusals limit x = (unused x, 2) ∷ (leb (outstanding x) (nearest x), 9) ∷ (leb limit (nearest x), 18) ∷ []
+-- refusals 2, 9
+unfoldable pub resend_refusals : Sender → Refusals
+resend_refusals x = (unused x, 2) ∷ (leb (outstanding x) (nearest x), 9) ∷ []
 
-unfoldable pub resend : ℕ → Sender → Outcome Answer Sender
-resend limit x = unless (resend_refusals limit x) (resent x)
+unfoldable pub resend : Sender → Outcome Answer Sender
+resend x = unless (resend_refusals x) (resent x)
 
--- an event of the sending side, where place + limit is not passed: all that may refuse it, and what it gives. What MPR a SACK carries is no
--- matter of the sender's record (`heard` of Mpr)
-unfoldable pub step_refusals : ℕ → Sender → Sending → Refusals
-step_refusals limit x (sending.Send size) = send_refusals limit x size
-step_refusals limit x (sending.Sack cack b c) = sack_refusals x cack b
-step_refusals limit x (sending.Nack p reason) = nack_refusals x p reason
-step_refusals limit x (sending.Timer p) = timer_refusals x p
-step_refusals limit x sending.Resend = resend_refusals limit x
+-- an event of the sending side: all that may refuse it, and what it gives
+unfoldable pub step_refusals : Sender → Sending → Refusals
+step_refusals x (sending.Send size) = send_refusals x size
+step_refusals x (sending.Sack cack b) = sack_refusals x cack b
+step_refusals x (sending.Nack p reason) = nack_refusals x p reason
+step_refusals x (sending.Timer p) = timer_refusals x p
+step_refusals x sending.Resend = resend_refusals x
 
-unfoldable pub step : ℕ → Sender → Sending → Outcome Answer Sender
-step limit x (sending.Send size) = send limit x size
-step limit x (sending.Sack cack b c) = sack x cack b
-step limit x (sending.Nack p reason) = nack x p reason
-step limit x (sending.Timer p) = timer x p
-step limit x sending.Resend = resend limit x
+unfoldable pub step : Sender → Sending → Outcome Answer Sender
+step x (sending.Send size) = send x size
+step x (sending.Sack cack b) = sack x cack b
+step x (sending.Nack p reason) = nack x p reason
+step x (sending.Timer p) = timer x p
+step x sending.Resend = resend x

@@ -20,16 +20,11 @@ pub const LEAST_SIZE: u16 = 48;
 
 pub const LARGEST_SIZE: u16 = 9216;
 
-// The packets that one unit of a SACK's MPR stands for, and the largest number of units.
-pub const MPR_UNIT: u32 = 128;
-
-pub const LARGEST_MPR: u32 = 255;
-
 // The longest log in bytes.
 pub const LONGEST_LOG: usize = 32_768;
 
 // How many kinds of record a log has, from 1 on, and the bytes of a record before its fields.
-pub const KINDS: u8 = 11;
+pub const KINDS: u8 = 8;
 
 pub const RECORD_HEAD: usize = 4;
 
@@ -69,11 +64,9 @@ pub struct Opening {
     pub first: Psn,
 }
 
-// What a connection may have beside its two sides: a dynamic MPR, where both peers have it.
+// What a connection may have beside its two sides. Nothing yet.
 #[derive(Drop)]
-pub struct Options {
-    pub dynamic: bool,
-}
+pub struct Options {}
 
 // The start of a connection.
 #[derive(Drop)]
@@ -83,31 +76,13 @@ pub struct Start {
     pub options: Options,
 }
 
-// The MPR that a SACK carries: 0 where its record has no field for it, or a value.
-#[derive(Drop)]
-pub enum Carried {
-    Unwritten,
-    Value(u8),
-}
-
 // An event of the sending side.
 #[derive(Drop)]
 pub enum Sending {
-    Send {
-        size: u16,
-    },
-    Sack {
-        cack: Psn,
-        block: Block,
-        mpr: Carried,
-    },
-    Nack {
-        psn: Psn,
-        reason: u8,
-    },
-    Timer {
-        psn: Psn,
-    },
+    Send { size: u16 },
+    Sack { cack: Psn, block: Block },
+    Nack { psn: Psn, reason: u8 },
+    Timer { psn: Psn },
     Resend,
 }
 
@@ -120,8 +95,6 @@ pub enum Use {
     Close,
     Sends(Sending),
     Receives(Receiving),
-    // The receiver's host sets the MPR that its SACKs carry.
-    SetMpr(u8),
 }
 
 // An event on a slot.
@@ -129,15 +102,6 @@ pub enum Use {
 pub enum Event {
     Start(Start),
     Use(Use),
-}
-
-// A connection's MPR, beside its two sides: whether it is dynamic, how many packets the sender may have outstanding at present, and the value that
-// the receiver puts in each SACK.
-#[derive(Drop)]
-pub struct Mpr {
-    pub dynamic: bool,
-    pub limit: u32,
-    pub told: u8,
 }
 
 // How an arrival is judged.
@@ -173,14 +137,13 @@ pub struct Nack {
 }
 
 // What a SACK did: packets newly retired, the place and the held bytes after it, and the false alarms, those of the newly retired that were
-// marked; and a flag, set where it carried an MPR of 0 to a connection whose MPR is dynamic.
+// marked.
 #[derive(Drop)]
 pub struct Report {
     pub newly: u32,
     pub place: Psn,
     pub held: u32,
     pub alarms: u32,
-    pub flag: bool,
 }
 
 // The answer to an event.
@@ -201,7 +164,6 @@ pub enum Answer {
     Expired(u8),
     // The packet number to send again.
     Resent(Psn),
-    MprSet,
 }
 
 // A field of a record: a packet number, or a number of so many bits.

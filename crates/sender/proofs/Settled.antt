@@ -29,8 +29,8 @@ pub start_settled : (opening : Opening) (r s : Stepped) → Steps empty (start o
 start_settled opening = same empty (start opening)
 
 module _ (x : Sender) where
-  pub send_settled : (limit size : ℕ) (r s : Stepped) → Steps x (send limit (meaning x) size) r → Steps x (send limit (meaning x) size) s → Same r s
-  send_settled limit size = same x (send limit (meaning x) size)
+  pub send_settled : (size : ℕ) (r s : Stepped) → Steps x (send (meaning x) size) r → Steps x (send (meaning x) size) s → Same r s
+  send_settled size = same x (send (meaning x) size)
 
   pub sack_settled : (cack : Psn) (block : Block) (r s : Stepped) → Steps x (sack (meaning x) cack block) r
       → Steps x (sack (meaning x) cack block) s → Same r s
@@ -42,8 +42,8 @@ module _ (x : Sender) where
   pub timer_settled : (psn : Psn) (r s : Stepped) → Steps x (timer (meaning x) psn) r → Steps x (timer (meaning x) psn) s → Same r s
   timer_settled psn = same x (timer (meaning x) psn)
 
-  pub resend_settled : (limit : ℕ) (r s : Stepped) → Steps x (resend limit (meaning x)) r → Steps x (resend limit (meaning x)) s → Same r s
-  resend_settled limit = same x (resend limit (meaning x))
+  pub resend_settled : (r s : Stepped) → Steps x (resend (meaning x)) r → Steps x (resend (meaning x)) s → Same r s
+  resend_settled = same x (resend (meaning x))
 
-  pub step_settled : (limit : ℕ) (event : Sending) (r s : Stepped) → Steps x (step limit (meaning x) event) r → Steps x (step limit (meaning x) event) s → Same r s
-  step_settled limit event = same x (step limit (meaning x) event)
+  pub step_settled : (event : Sending) (r s : Stepped) → Steps x (step (meaning x) event) r → Steps x (step (meaning x) event) s → Same r s
+  step_settled event = same x (step (meaning x) event)

@@ -5,7 +5,7 @@ ghost use Rattle.rules.specs.Sending.{nack as nack_of, resend as resend_of, sack
 ghost use Rattle.sender.specs.Record.{empty as empty_of, meaning, Sound, Steps};
 
 use psn::{Psn, TURN};
-use rules::{Answer, Block, Carried, LARGEST_ROOM, Opening, Sending, WORDS};
+use rules::{Answer, Block, LARGEST_ROOM, Opening, Sending, WORDS};
 use sending::Head;
 
 // A size for each packet number of the largest room.
@@ -86,12 +86,12 @@ impl Sender {
         }
     }
 
-    // A packet of this size is sent, if no more than `limit` are outstanding then, and never more than the room.
-    pub fn send(self, limit: u32, size: u16) -> Stepped
+    // A packet of this size is sent.
+    pub fn send(self, size: u16) -> Stepped
         requires { Sound self }
-        ensures { Steps self (send_of limit (meaning self) size) result }
+        ensures { Steps self (send_of (meaning self) size) result }
     {
-        self.step(limit, Sending::Send { size })
+        self.step(Sending::Send { size })
     }
 
     // A SACK.
@@ -99,14 +99,7 @@ impl Sender {
         requires { Sound self }
         ensures { Steps self (sack_of (meaning self) cack block) result }
     {
-        self.step(
-            LARGEST_ROOM,
-            Sending::Sack {
-                cack,
-                block,
-                mpr: Carried::Unwritten,
-            },
-        )
+        self.step(Sending::Sack { cack, block })
     }
 
     // A NACK for a packet number, with its reason.
@@ -114,7 +107,7 @@ impl Sender {
         requires { Sound self }
         ensures { Steps self (nack_of (meaning self) psn reason) result }
     {
-        self.step(LARGEST_ROOM, Sending::Nack { psn, reason })
+        self.step(Sending::Nack { psn, reason })
     }
 
     // A timer ran out for a packet number.
@@ -122,21 +115,21 @@ impl Sender {
         requires { Sound self }
         ensures { Steps self (timer_of (meaning self) psn) result }
     {
-        self.step(LARGEST_ROOM, Sending::Timer { psn })
+        self.step(Sending::Timer { psn })
     }
 
-    // The marked packet number nearest after the place is handed out, if it is one of the `limit` after the place, and its mark cleared.
-    pub fn resend(self, limit: u32) -> Stepped
+    // The marked packet number nearest after the place is handed out, and its mark cleared.
+    pub fn resend(self) -> Stepped
         requires { Sound self }
-        ensures { Steps self (resend_of limit (meaning self)) result }
+        ensures { Steps self (resend_of (meaning self)) result }
     {
-        self.step(limit, Sending::Resend)
+        self.step(Sending::Resend)
     }
 
-    // An event, at the head over its own rows. A send and a resend are given a limit; no other looks at it, nor at the MPR that a SACK carries.
-    pub fn step(self, limit: u32, event: Sending) -> Stepped
+    // An event, at the head over its own rows.
+    pub fn step(self, event: Sending) -> Stepped
         requires { Sound self }
-        ensures { Steps self (step_of limit (meaning self) event) result }
+        ensures { Steps self (step_of (meaning self) event) result }
     {
         let place = self.place;
         let mut sizes = self.sizes;
@@ -148,7 +141,7 @@ impl Sender {
             outstanding: self.outstanding,
             held: self.held,
         };
-        let out = head.step(&mut sizes, &mut retired, &mut marked, limit, event);
+        let out = head.step(&mut sizes, &mut retired, &mut marked, event);
         let answer = out.answer;
         let left = out.record;
         let next = left.place;

@@ -356,10 +356,9 @@ module _ (x : Lent) (cack : ℕ) (b : Block) (R'' M'' : List ℕ) (out : Moved) 
     unfolding meaning
     place_is = ap (λ (y : rule.Sender). y.place) acknowledged_means
 
-    pub acknowledged_reports : record { newly = out.newly; place = now; held = x.head.held - out.bytes; alarms = out.alarms; flag = false }
-        ≡ report (meaning x) cack b
+    pub acknowledged_reports : record { newly = out.newly; place = now; held = x.head.held - out.bytes; alarms = out.alarms } ≡ report (meaning x) cack b
     unfolding report
     acknowledged_reports =
         let held_after : x.head.held - out.bytes ≡ held (after_sack (meaning x) cack b) =
         held_is ∙ sym (held_total acknowledged) ∙ ap held acknowledged_means in
-        λ i. record { newly = newly_is i; place = psn (place_is i); held = held_after i; alarms = alarms_is i; flag = false }
+        λ i. record { newly = newly_is i; place = psn (place_is i); held = held_after i; alarms = alarms_is i }

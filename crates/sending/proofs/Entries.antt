@@ -87,9 +87,6 @@ module _ (x : Lent) where
   unfolding meaning
   is_used = ne_eqb x.head.room 0
 
-  pub limit_is : (limit : ℕ) → leb limit (outstanding (meaning x)) ≡ leb limit x.head.outstanding
-  limit_is limit = ap (leb limit) (length_entries x)
-
   pub full_is : leb (meaning x).room (outstanding (meaning x)) ≡ leb x.head.room x.head.outstanding
   unfolding meaning
-  full_is = limit_is x.head.room
+  full_is = ap (leb x.head.room) (length_entries x)

@@ -20,16 +20,16 @@ use Rattle.sending.specs.Lent.{Lent, lent, meaning, Sound, sent_size, sizes_afte
 no_size : (ss : List ℕ) (e : Sending) (n : ℕ) → sizes_after ss e (answer.Refused n) ≡ ss
 unfolding sizes_after sent_size
 no_size ss (sending.Send size) n = refl
-no_size ss (sending.Sack cack b m) n = refl
+no_size ss (sending.Sack cack b) n = refl
 no_size ss (sending.Nack p reason) n = refl
 no_size ss (sending.Timer p) n = refl
 no_size ss sending.Resend n = refl
 
 -- the i-th of the rule's tests l refuses
-pub refused_by : (x : Lent) → Sound x → (limit : ℕ) (e : Sending) (l : Refusals) (d : Outcome Answer rule.Sender) → step limit (meaning x) e ≡ unless l d
+pub refused_by : (x : Lent) → Sound x → (e : Sending) (l : Refusals) (d : Outcome Answer rule.Sender) → step (meaning x) e ≡ unless l d
     → (i : ℕ) → Past l i → test l i ≡ true → (r : Stepped) → (r.answer ≡ answer.Refused (number l i)) × (r.«record» ≡ x.head)
-    → Steps x limit e r x.sizes x.retired x.marked
-refused_by x s limit e l d o i p t r said = record {
+    → Steps x e r x.sizes x.retired x.marked
+refused_by x s e l d o i p t r said = record {
   meets = returns_at l d o i p t (on_refusal said.0) (ap (λ (h : Head). lent h x.sizes x.retired x.marked) said.1) s;
   sizes_are = sym (ap (sizes_after x.sizes e) said.0 ∙ no_size x.sizes e (number l i));
   retired_long = refl;

@@ -17,7 +17,7 @@ use Rattle.lists.proofs.Index.{map_table}
 use Rattle.lists.proofs.Tables.{lead_table}
 use Rattle.row.specs.Row.{at, Becomes, without_bit}
 use Rattle.marks.specs.Marks.{marked_at, bit_of, Finds}
-use Rattle.marks.specs.declared.Found.TheVariants.{Marked, Far, Nothing}
+use Rattle.marks.specs.declared.Found.TheVariants.{Marked, Nothing}
 use Rattle.rules.specs.Numbers.{psn}
 use Rattle.rules.specs.Sender.{outstanding, nth, with_entries}
 use Rattle.rules.specs.Marks.{nearest, unmarked, with_mark}
@@ -42,30 +42,16 @@ module _ (x : Lent) (i : ℕ) (first : First (marked_at x.marked x.head.place.0)
   none_is = ap₂ leb (length_entries x) nearest_is
 
 -- ---- nothing is found: the rule's test passes
-pub none_marked : (x : Lent) (limit : ℕ) → Finds x.marked x.head.place.0 x.head.outstanding limit Nothing
+pub none_marked : (x : Lent) → Finds x.marked x.head.place.0 x.head.outstanding Nothing
     → leb (outstanding (meaning x)) (nearest (meaning x)) ≡ true
 unfolding Finds
-none_marked x limit first = none_is x x.head.outstanding first ∙ le-leb x.head.outstanding x.head.outstanding (omega arith)
-
--- ---- one is found that is out of range: the rule's first test fails, and its second passes
-module _ (x : Lent) (limit : ℕ) (far : Finds x.marked x.head.place.0 x.head.outstanding limit Far) where
-  pub far_marked : leb (outstanding (meaning x)) (nearest (meaning x)) ≡ false
-  unfolding Finds
-  far_marked = none_is x far.0 far.3 ∙ lt-leb x.head.outstanding far.0 far.1
-
-  pub out_of_range : leb limit (nearest (meaning x)) ≡ true
-  unfolding Finds
-  out_of_range = ap (leb limit) (nearest_is x far.0 far.3) ∙ le-leb limit far.0 far.2
+none_marked x first = none_is x x.head.outstanding first ∙ le-leb x.head.outstanding x.head.outstanding (omega arith)
 
 -- ---- a packet number p is found, and its bit cleared
-module _ (x : Lent) (h : Started x) (limit : ℕ) (p : Psn) (found : Finds x.marked x.head.place.0 x.head.outstanding limit (Marked p)) where
+module _ (x : Lent) (h : Started x) (p : Psn) (found : Finds x.marked x.head.place.0 x.head.outstanding (Marked p)) where
   pub some_marked : leb (outstanding (meaning x)) (nearest (meaning x)) ≡ false
   unfolding Finds
-  some_marked = none_is x found.0 found.3 ∙ lt-leb x.head.outstanding found.0 found.1
-
-  pub in_range : leb limit (nearest (meaning x)) ≡ false
-  unfolding Finds
-  in_range = ap (leb limit) (nearest_is x found.0 found.3) ∙ lt-leb limit found.0 found.2
+  some_marked = none_is x found.0 found.2 ∙ lt-leb x.head.outstanding found.0 found.1
 
   index_found : (distance (after x.head.place.0 1) p.0 ≡ nearest (meaning x)) × (distance (after x.head.place.0 1) p.0 < x.head.outstanding)
   unfolding Finds
@@ -74,12 +60,12 @@ module _ (x : Lent) (h : Started x) (limit : ℕ) (p : Psn) (found : Finds x.mar
       let i = found.0 in
       let inside = found.1 in
       let here : distance (after a 1) (after a (1 + i)) ≡ i = ahead a 1 (1 + i) (omega arith) (omega (arith, few x h)) ∙ omega arith in
-      let is : distance (after a 1) p.0 ≡ i = ap (λ (q : Psn). distance (after a 1) q.0) found.4 ∙ here in
-      (is ∙ sym (nearest_is x i found.3), omega (arith, is))
+      let is : distance (after a 1) p.0 ≡ i = ap (λ (q : Psn). distance (after a 1) q.0) found.3 ∙ here in
+      (is ∙ sym (nearest_is x i found.2), omega (arith, is))
 
   pub resent_is : p ≡ psn (nth (meaning x) (nearest (meaning x)))
   unfolding Finds meaning
-  resent_is = found.4 ∙ ap (λ (i : ℕ). psn (after x.head.place.0 (1 + i))) (sym (nearest_is x found.0 found.3))
+  resent_is = found.3 ∙ ap (λ (i : ℕ). psn (after x.head.place.0 (1 + i))) (sym (nearest_is x found.0 found.2))
 
   module _ (ws : List ℕ) (cleared : Becomes x.marked ws (without_bit x.marked (bit_of x.head.place.0 p.0))) where
     long : length ws ≡ length x.retired

@@ -91,10 +91,10 @@ marked_are x (inl e) = subst (λ (y : Lent). Row y.marked (marked_of (meaning y)
 marked_are x (inr h) = row_is x (λ e. e.marked) false x.marked (unmarked x h) (λ i l. refl) h.mark_unsent
 
 -- ---- the rows after it are ss, rs and ms, or ss', rs' and ms'
-pub step_settled : (x : Lent) (limit : ℕ) (e : Sending) (r s : Stepped) (ss rs ms ss' rs' ms' : List ℕ) → Words rs → Words rs' → Words ms → Words ms'
-    → Steps x limit e r ss rs ms → Steps x limit e s ss' rs' ms'
+pub step_settled : (x : Lent) (e : Sending) (r s : Stepped) (ss rs ms ss' rs' ms' : List ℕ) → Words rs → Words rs' → Words ms → Words ms'
+    → Steps x e r ss rs ms → Steps x e s ss' rs' ms'
     → (r.answer ≡ s.answer) × (r.«record» ≡ s.«record») × (ss ≡ ss') × (rs ≡ rs') × (ms ≡ ms')
-step_settled x limit e r s ss rs ms ss' rs' ms' small small' few few' p q =
+step_settled x e r s ss rs ms ss' rs' ms' small small' few few' p q =
     let y = lent r.«record» ss rs ms in
     let z = lent s.«record» ss' rs' ms' in
     let same = settled r.answer s.answer y z p.meets q.meets in

@@ -88,18 +88,17 @@ sent_size ss size (answer.Retired r) = ss
 sent_size ss size (answer.Marked n) = ss
 sent_size ss size (answer.Expired n) = ss
 sent_size ss size (answer.Resent p) = ss
-sent_size ss size answer.MprSet = ss
 
 unfoldable pub sizes_after : List ℕ → Sending → Answer → List ℕ
 sizes_after ss (sending.Send size) a = sent_size ss size a
-sizes_after ss (sending.Sack cack b m) a = ss
+sizes_after ss (sending.Sack cack b) a = ss
 sizes_after ss (sending.Nack p reason) a = ss
 sizes_after ss (sending.Timer p) a = ss
 sizes_after ss sending.Resend a = ss
 
--- an event e on x, given a limit, is answered r, and leaves these rows
-pub record Steps (x : Lent) (limit : ℕ) (e : Sending) (r : Stepped) (ss rs ms : List ℕ) : Type 0 where
-  pub meets : Meets paper Sound meaning x (step limit (meaning x) e) r.answer (lent r.«record» ss rs ms)
+-- an event e on x is answered r, and leaves these rows
+pub record Steps (x : Lent) (e : Sending) (r : Stepped) (ss rs ms : List ℕ) : Type 0 where
+  pub meets : Meets paper Sound meaning x (step (meaning x) e) r.answer (lent r.«record» ss rs ms)
   pub sizes_are : ss ≡ sizes_after x.sizes e r.answer
   -- the words are as many as before
   pub retired_long : length rs ≡ length x.retired

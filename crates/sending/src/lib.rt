@@ -1,8 +1,7 @@
 // The sending side over lent rows. Words hold the packet numbers from place + 1's own block of 64 on: bit b of word j is number 64 j + b of that
 // block and those after it. All up to the place are retired, so their bits are set in that row. The sizes stand by packet number modulo the largest
 // room.
-ghost use Rattle.std.specs.Prelude.{◌≡◌, false, ℕ};
-ghost use Rattle.rules.specs.declared.Carried.{Carried};
+ghost use Rattle.std.specs.Prelude.{◌≡◌, false};
 ghost use Rattle.rules.specs.Retire.{names_unsent};
 ghost use Rattle.sending.specs.Lent.{lent, meaning, Started, Sound, Steps, Acknowledges};
 
@@ -37,17 +36,10 @@ impl Head {
         }
     }
 
-    // A packet of this size is sent, if no more than `limit` are outstanding then.
-    pub fn send(
-        self,
-        sizes: &mut [u16],
-        retired: &[u64],
-        marked: &[u64],
-        limit: u32,
-        size: u16,
-    ) -> Stepped
+    // A packet of this size is sent.
+    pub fn send(self, sizes: &mut [u16], retired: &[u64], marked: &[u64], size: u16) -> Stepped
         requires { Sound (lent self sizes.old retired.now marked.now) }
-        ensures { Steps (lent self sizes.old retired.now marked.now) limit (Sending.Send size)
+        ensures { Steps (lent self sizes.old retired.now marked.now) (Sending.Send size)
             result sizes.new retired.now marked.now }
     {
         let room = self.room;
@@ -59,9 +51,6 @@ impl Head {
             return self.refused(6);
         }
         if room <= n {
-            return self.refused(7);
-        }
-        if limit <= n {
             return self.refused(7);
         }
         let place = self.place;
@@ -81,7 +70,7 @@ impl Head {
     // A timer ran out for a packet number: it is marked if it is outstanding, not retired and not yet marked.
     pub fn timer(self, sizes: &[u16], retired: &[u64], marked: &mut [u64], psn: Psn) -> Stepped
         requires { Sound (lent self sizes.now retired.now marked.old) }
-        ensures { (limit : ℕ) → Steps (lent self sizes.now retired.now marked.old) limit (Sending.Timer psn)
+        ensures { Steps (lent self sizes.now retired.now marked.old) (Sending.Timer psn)
             result sizes.now retired.now marked.new }
     {
         if self.room == 0 {
@@ -110,7 +99,7 @@ impl Head {
         reason: u8,
     ) -> Stepped
         requires { Sound (lent self sizes.now retired.now marked.old) }
-        ensures { (limit : ℕ) → Steps (lent self sizes.now retired.now marked.old) limit (Sending.Nack psn reason)
+        ensures { Steps (lent self sizes.now retired.now marked.old) (Sending.Nack psn reason)
             result sizes.now retired.now marked.new }
     {
         if self.room == 0 {
@@ -138,22 +127,21 @@ impl Head {
         }
     }
 
-    // The marked packet number nearest after the place is handed out, if it is one of the `limit` after the place, and its mark cleared.
-    pub fn resend(self, sizes: &[u16], retired: &[u64], marked: &mut [u64], limit: u32) -> Stepped
+    // The marked packet number nearest after the place is handed out, and its mark cleared.
+    pub fn resend(self, sizes: &[u16], retired: &[u64], marked: &mut [u64]) -> Stepped
         requires { Sound (lent self sizes.now retired.now marked.old) }
-        ensures { Steps (lent self sizes.now retired.now marked.old) limit Sending.Resend
+        ensures { Steps (lent self sizes.now retired.now marked.old) Sending.Resend
             result sizes.now retired.now marked.new }
     {
         if self.room == 0 {
             return self.refused(2);
         }
-        match marks::take(marked, self.place, self.outstanding, limit) {
-            Found::Marked(psn) => Stepped {
-                answer: Answer::Resent(psn),
-                record: self,
-            },
-            Found::Far => self.refused(18),
-            Found::Nothing => self.refused(9),
+        let Found::Marked(psn) = marks::take(marked, self.place, self.outstanding) else {
+            return self.refused(9);
+        };
+        Stepped {
+            answer: Answer::Resent(psn),
+            record: self,
         }
     }
 
@@ -167,8 +155,7 @@ impl Head {
         block: Block,
     ) -> Stepped
         requires { Sound (lent self sizes.now retired.old marked.old) }
-        ensures { (limit : ℕ) (mpr : Carried)
-            → Steps (lent self sizes.now retired.old marked.old) limit (Sending.Sack cack block mpr)
+        ensures { Steps (lent self sizes.now retired.old marked.old) (Sending.Sack cack block)
             result sizes.now retired.new marked.new }
     {
         if self.room == 0 {
@@ -217,7 +204,6 @@ impl Head {
                 place: now,
                 held,
                 alarms: out.alarms,
-                flag: false,
             }),
             record: Head {
                 room: self.room,
@@ -228,29 +214,24 @@ impl Head {
         }
     }
 
-    // An event. A send and a resend are given a limit; no other looks at it, nor at the MPR that a SACK carries.
+    // An event.
     pub fn step(
         self,
         sizes: &mut [u16],
         retired: &mut [u64],
         marked: &mut [u64],
-        limit: u32,
         event: Sending,
     ) -> Stepped
         requires { Sound (lent self sizes.old retired.old marked.old) }
-        ensures { Steps (lent self sizes.old retired.old marked.old) limit event
+        ensures { Steps (lent self sizes.old retired.old marked.old) event
             result sizes.new retired.new marked.new }
     {
         match event {
-            Sending::Send { size } => return self.send(sizes, retired, marked, limit, size),
-            Sending::Sack {
-                cack,
-                block,
-                mpr: _,
-            } => return self.sack(sizes, retired, marked, cack, block),
+            Sending::Send { size } => return self.send(sizes, retired, marked, size),
+            Sending::Sack { cack, block } => return self.sack(sizes, retired, marked, cack, block),
             Sending::Nack { psn, reason } => return self.nack(sizes, retired, marked, psn, reason),
             Sending::Timer { psn } => return self.timer(sizes, retired, marked, psn),
-            Sending::Resend => return self.resend(sizes, retired, marked, limit),
+            Sending::Resend => return self.resend(sizes, retired, marked),
         }
     }
 }

@@ -6,12 +6,11 @@ use native.Mathlib.Numerals.{add-one}
 use native.Mathlib.Omega.{arith}
 use lib.ListN.{length, take, get_or, replicate, length-append, length-replicate}
 use lib.Seq.{length-take-le, take-suc, take-take, take-append_seam}
-use Rattle.rules.specs.Paper.{paper, digit}
+use Rattle.rules.specs.Paper.{paper}
 use Rattle.rules.specs.Replay.{Replied, Last, End, Log, line, stop}
 use Rattle.rules.specs.declared.Answer.{Answer}
 use Rattle.rules.specs.declared.Answer.TheVariants as answer
 use Rattle.paper.specs.Shown.{most}
-use Rattle.paper.proofs.Showing.{one_at_most}
 use Rattle.lines.specs.Text.{decimal}
 use Rattle.lines.proofs.Room.{decimal_short}
 use Rattle.text.specs.Text.{spaced, line_text, lines_text, last_text, offset_of, line_room}
@@ -57,20 +56,19 @@ unfolding stop last_text
 log_is zero place count h = absurd (h refl)
 log_is (suc n) place count h = simp (spaced_one, append_assoc)
 
--- an answer has at most 9 values
+-- an answer has at most 8 values
 pub values_few : (a : Answer) → length (paper a).values ≤ most
 unfolding paper
 values_few (answer.Refused n) = omega arith
 values_few answer.Started = omega arith
 values_few answer.Closed = omega arith
 values_few (answer.Sent p) = omega arith
-values_few (answer.Acked v k) = omega (arith, one_at_most k.mpr)
+values_few (answer.Acked v k) = omega arith
 values_few (answer.Nacked v k) = omega arith
-values_few (answer.Retired k) = omega (arith, one_at_most (digit k.flag))
+values_few (answer.Retired k) = omega arith
 values_few (answer.Marked n) = omega arith
 values_few (answer.Expired n) = omega arith
 values_few (answer.Resent p) = omega arith
-values_few answer.MprSet = omega arith
 
 -- of the code's array the first are the answer's values
 pub values_are : (l : List ℕ) → length l ≤ most → take (length l) (take most (l ++ replicate most 0)) ≡ l

@@ -37,6 +37,6 @@ head_text = 109 ∷ 114 ∷ 99 ∷ 32 ∷ 108 ∷ 111 ∷ 103 ∷ 32 ∷ 49 ∷ 
 unfoldable pub text_of : Replayed → List ℕ
 text_of r = head_text ++ (lines_text r.lines ++ last_text r.last)
 
--- the most bytes of a line: 11 numbers of at most 20 digits, with the space or the end of the line behind each
+-- the most bytes of a line: 10 numbers of at most 20 digits, with the space or the end of the line behind each
 abbrev pub line_room : ℕ
-line_room = 231
+line_room = 210

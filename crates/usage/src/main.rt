@@ -3,7 +3,7 @@ ghost use Rattle.connection.specs.Record.{Sound};
 
 use connection::Connection;
 use psn::Psn;
-use rules::{Answer, Arrival, Carried, Opening, Options, Sending, Start, Use};
+use rules::{Answer, Arrival, Opening, Options, Sending, Start, Use};
 
 // The reply reaches the card that sent: how many packets it newly retires.
 fn heard(near: Connection, reply: Answer) -> u32
@@ -13,8 +13,7 @@ fn heard(near: Connection, reply: Answer) -> u32
         Answer::Acked(_, sack) => {
             let cack = sack.cack;
             let block = sack.block;
-            let mpr = Carried::Value(sack.mpr);
-            let out = near.step(Use::Sends(Sending::Sack { cack, block, mpr }));
+            let out = near.step(Use::Sends(Sending::Sack { cack, block }));
             let answer = out.answer;
             match answer {
                 Answer::Retired(report) => report.newly,
@@ -25,7 +24,7 @@ fn heard(near: Connection, reply: Answer) -> u32
     }
 }
 
-// A start with rooms of 64, the first packet number each way, and dynamic MPR.
+// A start with rooms of 64, and the first packet number each way.
 fn opening(send: u32, receive: u32) -> Start {
     Start {
         sending: Opening {
@@ -36,7 +35,7 @@ fn opening(send: u32, receive: u32) -> Start {
             room: 64,
             first: Psn(receive),
         },
-        options: Options { dynamic: true },
+        options: Options {},
     }
 }
 

@@ -16,7 +16,7 @@ use contract.Monad.{Fun, fact}
 use contract.Running.{tables, tables_of}
 use types.Kit.{‵, raw, given, ◌⊛◌, some, later, ◌$◌, ◌∵◌, !, qed, by, move, keep, drop, use1, use2, use3, split, join, learn, pick, rewrite}
 use types.Kit.{fsplit, fjoin, feq_l, suffices, await, done}
-use types.Run.{look, load, init, stop, from, of_opd, addr, and_then, no_more, land, returns, enter, alloc1, alloc0, params1, pass1, pass0}
+use types.Run.{look, init, stop, from, of_opd, addr, and_then, no_more, land, returns, enter, alloc1, alloc0, params1, pass1, pass0}
 use types.Part.{agg}
 use types.SemTy.{cells, Arr}
 use types.Tokens.{lft_new, lft_end}
@@ -172,12 +172,12 @@ module _ {M : Type 1} {𝓤 : Ura M} (𝓛 : Logic 𝓤) (at_mem : Memory → SP
         -- the locals _0 to _9, and the arguments in _1 to _4: local i stands at 18 - 2 i
         alloc1 ! (λ l₀. alloc1 ! (λ l₁. alloc1 ! (λ l₂. alloc1 ! (λ l₃. alloc1 ! (λ l₄.
         alloc1 ! (λ l₅. alloc1 ! (λ l₆. alloc1 ! (λ l₇. alloc1 ! (λ l₈. alloc1 ! (λ l₉. alloc0 ! $ params1 ! $
-        pass1 ! (init ! 16 {τ = AT} {b = l₁} {o = 0} {v = arr xs} refl (arr_typed k xs 𝓛 l₅ xs is_t)) $
+        pass1 ! (init ! 16 refl (arr_typed k xs 𝓛 l₅ xs is_t)) $
         pass1 ! (init ! 14 refl (tt, record { fits = k_fits })) $
         pass1 ! (init ! 12 refl (tt, record { fits = n_fits })) $
-        pass1 ! (init ! 10 {τ = E'.mir} {b = l₄} {o = 0} {v = event_val e} refl ((EL.lawful E₀.the_type E'.the_laws 𝓛 tt).typed e _ is_e).0) $ pass0 ! $
+        pass1 ! (init ! 10 refl ((EL.lawful E₀.the_type E'.the_laws 𝓛 tt).typed e _ is_e).0) $ pass0 ! $
         -- the table in a local, and the slice of its first slots
-        sets ! (of_opd ! (var ! 16 refl)) (init ! 8 {τ = AT} {b = l₅} {o = 0} {v = arr xs} refl (arr_typed k xs 𝓛 l₅ xs is_t)) $
+        sets ! (of_opd ! (var ! 16 refl)) (init ! 8 refl (arr_typed k xs 𝓛 l₅ xs is_t)) $
         sets ! (addr ! (from ! (stop !))) (init ! 2 refl (tt, tt)) $
         sets ! (agg ! (and_then ! (var ! 2 refl) (and_then ! (var ! 14 refl) (no_more !)))) (init ! 0 refl (tt, (tt, (record { fits = k_fits }, tt)))) $
         rewrite ! 0 (λ (m : ℕ). ‵ (fat full_share (slice_ty (ty_ref erased mut (pointee R.written))) l₉ 0 (slice_val (l₅, 0) m)))
@@ -191,8 +191,7 @@ module _ {M : Type 1} {𝓤 : Ura M} (𝓛 : Logic 𝓤) (at_mem : Memory → SP
         move ! (2 ∷ 0 ∷ []) $ use2 𝓛 (raw ((At 𝓛 at_mem run).pre (to_event l₅ ν γ))) (goes_event l₅ ν γ) $
         -- [pre; what the lender keeps; the other slots; _9; …; _6; …; that _5 dies; _4; …; _0; …]
         calls_at ! fm (At 𝓛 at_mem run) known (to_event l₅ ν γ)
-        (and_then ! (var ! 3 refl) (and_then ! (var ! 14 refl)
-        (and_then ! (load ! (from ! (stop !)) (look ! 12 {q = full_share} {τ = E'.mir} {b = l₄} {o = 0} {v = event_val e} refl)) (no_more !)))) (λ v.
+        (and_then ! (var ! 3 refl) (and_then ! (var ! 14 refl) (and_then ! (var ! 12 refl) (no_more !)))) (λ v.
         use1 𝓛 (later (some (λ (r : Answer). ((‵ (flft (ν ∷ []) full_share) ⊛ ‵ ftrue) ⊛ ‵ ((A₀.the_row).own_val r (v ∷ [])))
         ⊛ raw (ensured 𝓛 event'.ended (event'.clauses 𝓛 at_mem run) (ν ∷ [], tt) (x l₅ ν γ, (n, (e, tt))) tt r)))) (id⊢ 𝓤 _) $
         await ! tt $ pick ! (λ r. split ! $ move ! (1 ∷ []) $
@@ -200,7 +199,7 @@ module _ {M : Type 1} {𝓤 : Ura M} (𝓛 : Logic 𝓤) (at_mem : Memory → SP
         ‵ (lasts event'.ended (ν ∷ [], tt) (x l₅ ν γ, (n, (e, tt))) ws) ⊛ raw (fact 𝓤 (On front n e r ws.0)))) (id⊢ 𝓤 _) $
         pick ! (λ ws. split ! $ move ! (1 ∷ []) $ heard ! (On front n e r ws.0) (λ said. fsplit ! $ fsplit ! $ move ! (1 ∷ []) $ feq_l ! (λ same.
         move ! (2 ∷ []) $ split ! $ move ! (1 ∷ []) $ peeks ! A₀.the_row (Is A₀.the_row) (shows 𝓛 A₀.the_row) r (v ∷ []) (λ is_v.
-        land ! (from ! (stop !)) (init ! 12 {τ = A'.mir} {b = l₆} {o = 0} {v = v} refl (answer_typed 𝓛 r v is_v)) $
+        land ! (from ! (stop !)) (init ! 12 refl (answer_typed 𝓛 r v is_v)) $
         let tells : v ∷ [] ≡ answer_val r ∷ [] = EL.tells A₀.the_type A'.the_laws r (v ∷ []) is_v in
         let is_r : Is A₀.the_row r (answer_val r ∷ []) = EL.owes A₀.the_type A'.the_laws r (EL.owed A₀.the_type A'.the_laws r (v ∷ []) is_v) in
         rewrite ! 12 (λ (u : Val). ‵ (fat full_share A'.mir l₆ 0 u)) (ap only tells) refl $ drop ! $
@@ -212,10 +211,10 @@ module _ {M : Type 1} {𝓤 : Ura M} (𝓛 : Logic 𝓤) (at_mem : Memory → SP
         use2 𝓛 (given (Is Ra zs (arr zs ∷ [])) (‵ (fat full_share AT l₅ 0 (arr zs)))) (joins k xs 𝓛 l₅ ws.0 low is_full) $ learn ! (λ is_z.
         -- [true; true; _9; …; _0; …]: local i stands at 20 - 2 i
         move ! (1 ∷ 2 ∷ 3 ∷ 4 ∷ 5 ∷ 6 ∷ 7 ∷ 8 ∷ 9 ∷ 10 ∷ 0 ∷ []) $
-        sets ! (of_opd ! (var ! 10 refl)) (init ! 6 {τ = AT} {b = l₇} {o = 0} {v = arr zs} refl (arr_typed k xs 𝓛 l₅ zs is_z)) $
+        sets ! (of_opd ! (var ! 10 refl)) (init ! 6 refl (arr_typed k xs 𝓛 l₅ zs is_z)) $
         sets ! (agg ! (and_then ! (var ! 8 refl) (and_then ! (var ! 6 refl) (no_more !))))
-        (init ! 20 {τ = O'.mir} {b = l₀} {o = 0} {v = made_val r zs} refl ((LL.lawful O₀.the_type O'.the_laws 𝓛).typed (made r zs) _ (is_made r zs is_r is_z)).0) $
-        returns ! (look ! 20 {τ = O'.mir} {b = l₀} {o = 0} {v = made_val r zs} refl) $
+        (init ! 20 refl ((LL.lawful O₀.the_type O'.the_laws 𝓛).typed (made r zs) _ (is_made r zs is_r is_z)).0) $
+        returns ! (look ! 20 refl) $
         frees_all ! 2 (full _ ∷ full _ ∷ full _ ∷ full _ ∷ full _ ∷ full _ ∷ full _ ∷ full _ ∷ full _ ∷ full _ ∷ []) refl $
         keep ! [] $ by ! (exits r zs (put_sound k xs all ws.0 (said_sound front n e r ws.0 said)) is_r is_z))))))))))))))))))))
 

@@ -1,22 +1,16 @@
 -- `kinds::kind` meets its contract, arm by arm. Assumes nothing.
 use borrow.Author.Rules.{rules}
-use mathlib.Core.Path.{sym, ap, ◌∙◌}
+use mathlib.Core.Path.{sym, ap}
 use Rattle.rules.specs.Kinds.{kind_of}
 use Rattle.kinds.proofs.Nested.{used, sends}
 use Rattle.kinds.proofs.kind.Statement.{statement}
 use Rattle.kinds.proofs.kind.Tie as tie
 
-enum-known-event : tie.Need-enum-known-event
-enum-known-event c = search rules
-
-start-kind-requires : tie.Need-start-kind-requires
-start-kind-requires c κs = search rules
-
-enum-known-event-2 : tie.Need-enum-known-event-2
-enum-known-event-2 c = search rules
-
 enum_told : tie.Need-enum-told
 enum_told c = search rules
+
+enum-known-event : tie.Need-enum-known-event
+enum-known-event c = search rules
 
 enum-told-2 : tie.Need-enum-told-2
 enum-told-2 c = search rules
@@ -30,12 +24,6 @@ enum-known-u c = search rules
 enum-told-4 : tie.Need-enum-told-4
 enum-told-4 c = search rules
 
-enum-known-s : tie.Need-enum-known-s
-enum-known-s c = search rules
-
-sack-kind-requires : tie.Need-sack-kind-requires
-sack-kind-requires c κs = search rules
-
 enum-told-5 : tie.Need-enum-told-5
 enum-told-5 c = search rules
 
@@ -45,69 +33,65 @@ enum-told-6 c = search rules
 enum-told-7 : tie.Need-enum-told-7
 enum-told-7 c = search rules
 
+enum-told-8 : tie.Need-enum-told-8
+enum-told-8 c = search rules
+
 returns : tie.Need-returns
 unfolding kind_of
-returns c = c.start_kind.ensures ∙ sym (ap kind_of c.before.before.event.given.1)
+returns c = sym (ap kind_of c.enum_told.given.1)
 
 returns-2 : tie.Need-returns-2
 unfolding kind_of
-returns-2 c = sym (ap kind_of (used c.before.before.before.event2.given.1 c.enum_told.given.1))
+returns-2 c = sym (ap kind_of (used c.before.before.before.event.given.1 c.enum-told2.given.1))
 
 returns-3 : tie.Need-returns-3
 unfolding kind_of
-returns-3 c = sym (ap kind_of (used c.before.before.before.event2.given.1 c.enum-told2.given.1))
+returns-3 c = sym (ap kind_of (used c.before.before.before.event.given.1 c.enum-told3.given.1))
 
 returns-4 : tie.Need-returns-4
 unfolding kind_of
-returns-4 c = sym (ap kind_of (used c.before.before.before.event2.given.1 c.enum-told3.given.1))
+returns-4 c =
+    let s = c.before.before.before in
+    sym (ap kind_of (sends s.before.before.before.event.given.1 s.u.given.1 c.enum-told4.given.1))
 
 returns-5 : tie.Need-returns-5
 unfolding kind_of
 returns-5 c =
     let s = c.before.before.before in
-    sym (ap kind_of (sends s.before.before.before.event2.given.1 s.u.given.1 c.enum-told4.given.1))
+    sym (ap kind_of (sends s.before.before.before.event.given.1 s.u.given.1 c.enum-told5.given.1))
 
 returns-6 : tie.Need-returns-6
 unfolding kind_of
 returns-6 c =
-    let s = c.before.before.before.before.before in
-    c.sack_kind.ensures ∙ sym (ap kind_of (sends s.before.before.before.event2.given.1 s.u.given.1 c.before.before.s.given.1))
+    let s = c.before.before.before in
+    sym (ap kind_of (sends s.before.before.before.event.given.1 s.u.given.1 c.enum-told6.given.1))
 
 returns-7 : tie.Need-returns-7
 unfolding kind_of
 returns-7 c =
     let s = c.before.before.before in
-    sym (ap kind_of (sends s.before.before.before.event2.given.1 s.u.given.1 c.enum-told5.given.1))
+    sym (ap kind_of (sends s.before.before.before.event.given.1 s.u.given.1 c.enum-told7.given.1))
 
 returns-8 : tie.Need-returns-8
 unfolding kind_of
 returns-8 c =
     let s = c.before.before.before in
-    sym (ap kind_of (sends s.before.before.before.event2.given.1 s.u.given.1 c.enum-told6.given.1))
-
-returns-9 : tie.Need-returns-9
-unfolding kind_of
-returns-9 c =
-    let s = c.before.before.before in
-    sym (ap kind_of (sends s.before.before.before.event2.given.1 s.u.given.1 c.enum-told7.given.1))
+    sym (ap kind_of (sends s.before.before.before.event.given.1 s.u.given.1 c.enum-told8.given.1))
 
 pub kind_spec : {M : Type 1} → statement M
 kind_spec =
     tie.close
     (tie.spec
-    enum-known-event
-    start-kind-requires
-    enum-known-event-2
     enum_told
+    enum-known-event
     enum-told-2
     enum-told-3
     enum-known-u
     enum-told-4
-    enum-known-s
-    sack-kind-requires
     enum-told-5
     enum-told-6
     enum-told-7
+    enum-told-8
     returns
     returns-2
     returns-3
@@ -115,5 +99,4 @@ kind_spec =
     returns-5
     returns-6
     returns-7
-    returns-8
-    returns-9)
+    returns-8)

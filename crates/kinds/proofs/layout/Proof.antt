@@ -1,11 +1,26 @@
--- `kinds::layout` meets its contract: each arm is an entry of the layouts, and no other entry has fields. Assumes nothing.
-use native.Mathlib.Omega.{arith}
+-- `kinds::layout` meets its contract: each arm is an entry of the layouts. Assumes nothing.
+use mathlib.Core.Path.{◌≡◌, refl}
+use mathlib.Core.List.{[]}
+use Prim.Native.Nat.{ℕ, zero, suc}
 use Rattle.lists.specs.Index.{table}
 use Rattle.rules.specs.Kinds.{layouts, layout as layout_of}
 use Rattle.kinds.specs.Padded.{padded_cells}
-use Rattle.kinds.proofs.Unlike.{Unlike, filled, empty_at}
 use Rattle.kinds.proofs.layout.Statement.{statement}
 use Rattle.kinds.proofs.layout.Tie as tie
+
+-- any other kind has no fields
+none : (k : ℕ) → (k ≡ 1 → ⊥) → (k ≡ 3 → ⊥) → (k ≡ 4 → ⊥) → (k ≡ 5 → ⊥) → (k ≡ 6 → ⊥) → (k ≡ 7 → ⊥) → layout_of k ≡ []
+unfolding layout_of layouts
+none zero a b c d e f = refl
+none (suc zero) a b c d e f = absurd (a refl)
+none (suc (suc zero)) a b c d e f = refl
+none (suc (suc (suc zero))) a b c d e f = absurd (b refl)
+none (suc (suc (suc (suc zero)))) a b c d e f = absurd (c refl)
+none (suc (suc (suc (suc (suc zero))))) a b c d e f = absurd (d refl)
+none (suc (suc (suc (suc (suc (suc zero)))))) a b c d e f = absurd (e refl)
+none (suc (suc (suc (suc (suc (suc (suc zero))))))) a b c d e f = absurd (f refl)
+none (suc (suc (suc (suc (suc (suc (suc (suc zero)))))))) a b c d e f = refl
+none (suc (suc (suc (suc (suc (suc (suc (suc (suc k))))))))) a b c d e f = refl
 
 returns : tie.Need-returns
 unfolding padded_cells table layout_of layouts
@@ -32,23 +47,11 @@ unfolding padded_cells table layout_of layouts
 returns-6 c = rw c.match.keys6
 
 returns-7 : tie.Need-returns-7
-unfolding padded_cells table layout_of layouts
-returns-7 c = rw c.match.keys7
-
-returns-8 : tie.Need-returns-8
-unfolding padded_cells table layout_of layouts
-returns-8 c = rw c.match.keys8
-
-returns-9 : tie.Need-returns-9
-unfolding padded_cells table layout_of layouts
-returns-9 c = rw c.match.keys9
-
-returns-10 : tie.Need-returns-10
-unfolding padded_cells table layout_of layouts Unlike filled
-returns-10 c =
-    let k = c.before.args.kind in
-    rw (empty_at (Unit {0}) k 0 k layouts (omega arith) c.match.rest)
+unfolding padded_cells table
+returns-7 c =
+    let m = c.match.rest in
+    rw (none c.before.args.kind m.0.0.0.0.0.1 m.0.0.0.0.1 m.0.0.0.1 m.0.0.1 m.0.1 m.1)
 
 pub layout_spec : {M : Type 1} → statement M
 layout_spec =
-    tie.close (tie.spec returns returns-2 returns-3 returns-4 returns-5 returns-6 returns-7 returns-8 returns-9 returns-10)
+    tie.close (tie.spec returns returns-2 returns-3 returns-4 returns-5 returns-6 returns-7)

@@ -7,17 +7,17 @@ use lib.ListN.{get_or}
 use Rattle.lists.specs.Index.{First}
 use Rattle.word.specs.Word.{bit_at}
 use Rattle.rules.specs.Numbers.{psn}
-use Rattle.marks.specs.Marks.{marked_at, Finds}
+use Rattle.marks.specs.Marks.{Finds}
 use Rattle.marks.proofs.Search.{Passed, rest_of, passed_word, passed_low, marked_low, finds_none, finds_first}
 use borrow.Author.Rules.{rules}
 use Rattle.marks.proofs.nearest.Statement.{statement}
 use Rattle.marks.proofs.nearest.Tie as tie
 
 abbrev invariant-loop : tie.invariant-loop
-invariant-loop marked place n limit s p₀ p = (s ≤ p) × Passed marked s p
+invariant-loop marked place n s p₀ p = (s ≤ p) × Passed marked s p
 
 abbrev decreases-loop : tie.decreases-loop
-decreases-loop marked place n limit s p₀ p = s + n - p
+decreases-loop marked place n s p₀ p = s + n - p
 
 -- the call, the row, its bit that the search stands at, and the lowest mark in the word from there on
 abbrev start : tie.After-lowest invariant-loop decreases-loop → tie.Start invariant-loop decreases-loop
@@ -85,11 +85,17 @@ returns-2 c =
     let d = c.before.before in
     finds_none (row_of d) (first_of d) (stands d + d.lowest.result) (passed d c.before.if2.true) (start d).args.n c.if3.true
 
-add-i : tie.Need-overflow-add-i invariant-loop decreases-loop
-add-i c = omega (arith, (start c.before.before).pre.few)
+add-after : tie.Need-overflow-add-after invariant-loop decreases-loop
+add-after c = omega (arith, (start c.before.before).pre.few)
 
-sub-i : tie.Need-overflow-sub-i invariant-loop decreases-loop
-sub-i c = search rules
+sub-after : tie.Need-overflow-sub-after invariant-loop decreases-loop
+sub-after c = search rules
+
+add-after-2 : tie.Need-overflow-add-after-2 invariant-loop decreases-loop
+add-after-2 c = omega (arith, (start c.before.before).pre.few)
+
+after-requires : tie.Need-after-requires invariant-loop decreases-loop
+after-requires c κs = search rules
 
 mul-p : tie.Need-overflow-mul-p invariant-loop decreases-loop
 mul-p c = omega (arith, (start c.before).pre.few)
@@ -106,44 +112,20 @@ loop-again c =
     let none = d.before.before.before.loop.invariant.1 in
     (omega arith, passed_word (row_of d) (first_of d) (stands d) d.lowest.result none (lowest d) (omega arith))
 
--- what the search stops at is the first mark
-abbrev index : tie.Else3 invariant-loop decreases-loop → ℕ
-index c = let d = c.before.before in stands d + d.lowest.result - first_of d
-
-abbrev many : tie.Else3 invariant-loop decreases-loop → ℕ
-many c = (start c.before.before).args.n
-
-found_first : (c : tie.Else3 invariant-loop decreases-loop)
-    → (index c < many c) × First (marked_at (row_of c.before.before) (start c.before.before).args.place.0) (many c) (index c)
-found_first c =
-    let d = c.before.before in
-    let p = stands d in
-    let s = first_of d in
-    let t = d.lowest.result in
-    let l = d.before.before.before.loop in
-    let in_word = c.before.if2.true in
-    let here = marked_low (row_of d) s p t l.invariant.1 (lowest d) (small d) in_word in (
-      omega (arith, c.if3.false, l.invariant.0),
-      finds_first (row_of d) s (p + t) (passed d in_word) (many c) (omega (arith, l.invariant.0)) (omega (arith, c.if3.false)) here,
-    )
-
 returns-3 : tie.Need-returns-3 invariant-loop decreases-loop
 unfolding Finds
 returns-3 c =
-    let first = found_first c.before in
-    (index c.before, first.0, omega (arith, c.if4.true), first.1)
-
-add-after : tie.Need-overflow-add-after invariant-loop decreases-loop
-add-after c = omega (arith, (start c.before.before.before).pre.few)
-
-after-requires : tie.Need-after-requires invariant-loop decreases-loop
-after-requires c κs = search rules
-
-returns-4 : tie.Need-returns-4 invariant-loop decreases-loop
-unfolding Finds
-returns-4 c =
-    let first = found_first c.before.before in
-    (index c.before.before, first.0, omega (arith, c.before.if4.false), first.1, ap psn c.after.ensures)
+    let found = c.before in
+    let d = found.before.before in
+    let p = stands d in
+    let s = first_of d in
+    let t = d.lowest.result in
+    let n = (start d).args.n in
+    let l = d.before.before.before.loop in
+    let in_word = found.before.if2.true in
+    let here = marked_low (row_of d) s p t l.invariant.1 (lowest d) (small d) in_word in
+    let first = finds_first (row_of d) s (p + t) (passed d in_word) n (omega (arith, l.invariant.0)) (omega (arith, found.if3.false)) here in
+    (p + t - s, omega (arith, found.if3.false, l.invariant.0), first, ap psn c.after.ensures)
 
 pub nearest_spec : {M : Type 1} → statement M
 nearest_spec =
@@ -163,13 +145,12 @@ nearest_spec =
     add-if3
     add-if3-2
     returns-2
-    add-i
-    sub-i
+    add-after
+    sub-after
+    add-after-2
+    after-requires
     mul-p
     add-p
     loop-less
     loop-again
-    returns-3
-    add-after
-    after-requires
-    returns-4)
+    returns-3)

@@ -1,12 +1,12 @@
 -- `marks::take` meets its contract: what the search finds, and its bit cleared, or the row as it was. Assumes nothing.
-use mathlib.Core.Path.{◌≡◌, refl, ap, subst, ◌∙◌}
-use mathlib.Core.List.{List}
+use mathlib.Core.Path.{◌≡◌, refl, sym, ap, subst, ◌∙◌}
 use Prim.Native.Nat.{ℕ, ◌+◌}
 use native.Mathlib.Omega.{arith}
 use Rattle.psn.specs.Psn.{after, distance}
 use Rattle.psn.proofs.Circle.{distance_lt}
 use Rattle.row.specs.Row.{at, Becomes, without_bit}
 use Rattle.marks.specs.Marks.{offset, left_after, Finds}
+use Rattle.marks.specs.declared.Found.{Found}
 use borrow.Author.Rules.{rules}
 use Rattle.marks.proofs.take.Statement.{statement}
 use Rattle.marks.proofs.take.Tie as tie
@@ -16,7 +16,7 @@ abbrev start : tie.After-distance → tie.Start
 start c = c.before.before.before.before.before.before.before.before.before.before
 
 abbrev psn : tie.After-distance → ℕ
-psn c = c.before.before.before.before.before.psn.given.0.0.0
+psn c = c.before.before.before.before.before.found.given.0.0.0
 
 index_is : (c : tie.After-distance) → c.distance.result ≡ distance (after (start c).args.place.0 1) (psn c)
 index_is c = c.distance.ensures ∙ ap (λ (a : ℕ). distance a (psn c)) c.before.after.ensures
@@ -24,8 +24,8 @@ index_is c = c.distance.ensures ∙ ap (λ (a : ℕ). distance a (psn c)) c.befo
 nearest-requires : tie.Need-nearest-requires
 nearest-requires c κs = search rules
 
-enum-known-psn : tie.Need-enum-known-psn
-enum-known-psn c = search rules
+enum-known-found : tie.Need-enum-known-found
+enum-known-found c = search rules
 
 add-clear : tie.Need-overflow-add-clear
 add-clear c = search rules
@@ -45,9 +45,6 @@ clear-requires c κs = search rules
 enum_told : tie.Need-enum-told
 enum_told c = search rules
 
-enum-told-2 : tie.Need-enum-told-2
-enum-told-2 c = search rules
-
 same_length : tie.Need-same-length
 same_length c = search rules
 
@@ -62,54 +59,34 @@ returns c =
     let cleared = subst (λ (k : ℕ). Becomes ws ws' (without_bit ws (offset place + k))) i_is c.before.before.clear.ensures in
     let found = c.before.before.before.before.before.before.before.before in
     let finds = found.before.before.nearest.ensures in
-    record { finds = subst (Finds ws place entry.args.n entry.args.limit) found.psn.given.1 finds; marked_are = cleared }
+    record { finds = subst (Finds ws place entry.args.n) found.found.given.1 finds; marked_are = cleared }
 
 same-length-2 : tie.Need-same-length-2
 same-length-2 c = search rules
-
--- where nothing is handed out, the row is as it was
-kept : (ws : List ℕ) → Becomes ws ws (at ws)
-kept ws = record { long = refl; bits_are = λ p. refl }
 
 returns-2 : tie.Need-returns-2
 unfolding left_after
 returns-2 c =
     let entry = c.before.before.before.before.before in
     let ws = entry.args.marked.now in
-    record {
-      finds = subst (Finds ws entry.args.place.0 entry.args.n entry.args.limit) c.enum_told.given.1 c.before.before.nearest.ensures;
-      marked_are = kept ws;
-    }
-
-same-length-3 : tie.Need-same-length-3
-same-length-3 c = search rules
-
-returns-3 : tie.Need-returns-3
-unfolding left_after
-returns-3 c =
-    let entry = c.before.before.before.before.before in
-    let ws = entry.args.marked.now in
-    record {
-      finds = subst (Finds ws entry.args.place.0 entry.args.n entry.args.limit) c.enum-told2.given.1 c.before.before.nearest.ensures;
-      marked_are = kept ws;
-    }
+    let kept : Becomes ws ws (at ws) = record { long = refl; bits_are = λ p. refl } in
+    let place = entry.args.place.0 in
+    let left = subst (λ (r : Found). Becomes ws ws (left_after ws place r)) (sym c.enum_told.given.1) kept in
+    record { finds = c.before.before.nearest.ensures; marked_are = left }
 
 pub take_spec : {M : Type 1} → statement M
 take_spec =
     tie.close
     (tie.spec
     nearest-requires
-    enum-known-psn
+    enum-known-found
     add-clear
     after-requires
     distance-requires
     add-clear-2
     clear-requires
     enum_told
-    enum-told-2
     same_length
     returns
     same-length-2
-    returns-2
-    same-length-3
-    returns-3)
+    returns-2)

@@ -77,12 +77,6 @@ cast-one-4 c = search rules
 one-requires-4 : tie.Need-one-requires-4
 one-requires-4 c κs = search rules
 
-enum-told-3 : tie.Need-enum-told-3
-enum-told-3 c = search rules
-
-none-requires-4 : tie.Need-none-requires-4
-none-requires-4 c κs = search rules
-
 returns : tie.Need-returns
 unfolding paper
 returns c = shows _ _ _ c.before.before.answer.given.1 c.none.ensures
@@ -123,10 +117,6 @@ returns-10 : tie.Need-returns-10
 unfolding paper
 returns-10 c = shows _ _ _ c.before.before.before.answer8.given.1 c.one4.ensures
 
-returns-11 : tie.Need-returns-11
-unfolding paper
-returns-11 c = shows _ _ _ c.before.enum-told3.given.1 c.none4.ensures
-
 pub line_of_spec : {M : Type 1} → statement M
 line_of_spec =
     tie.close
@@ -155,8 +145,6 @@ line_of_spec =
     enum-known-answer-8
     cast-one-4
     one-requires-4
-    enum-told-3
-    none-requires-4
     returns
     returns-2
     returns-3
@@ -166,5 +154,4 @@ line_of_spec =
     returns-7
     returns-8
     returns-9
-    returns-10
-    returns-11)
+    returns-10)

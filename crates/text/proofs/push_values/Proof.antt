@@ -5,7 +5,6 @@ use Prim.Native.Nat.{◌-◌, ◌≤◌}
 use native.Mathlib.Omega.{arith}
 use lib.ListN.{take}
 use lib.Seq.{take_all}
-use Rattle.paper.specs.Shown.{most}
 use Rattle.lines.specs.Text.{put, past, Puts}
 use Rattle.lines.proofs.Putting.{puts_long, puts_more}
 use Rattle.text.specs.Text.{spaced}
@@ -14,10 +13,10 @@ use Rattle.text.proofs.push_values.Statement.{statement}
 use Rattle.text.proofs.push_values.Tie as tie
 
 abbrev invariant-loop : tie.invariant-loop
-invariant-loop out₀ at values many p₀ i₀ out p i = (i ≤ most) × (i ≤ many) × Puts out₀ at (spaced (take i values)) out p
+invariant-loop out₀ at values many p₀ i₀ out p i = (i ≤ 8) × (i ≤ many) × Puts out₀ at (spaced (take i values)) out p
 
 abbrev decreases-loop : tie.decreases-loop
-decreases-loop out₀ at values many p₀ i₀ out p i = most - i
+decreases-loop out₀ at values many p₀ i₀ out p i = 8 - i
 
 loop-holds : tie.Need-loop-init invariant-loop decreases-loop
 unfolding spaced put past

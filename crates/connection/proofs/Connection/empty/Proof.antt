@@ -1,4 +1,4 @@
--- `Connection::empty` meets its contract: both sides are empty, and so is the MPR. Assumes nothing.
+-- `Connection::empty` meets its contract: both sides are empty. Assumes nothing.
 use borrow.Author.Rules.{rules}
 use Rattle.connection.proofs.Connection.empty.Statement.{statement}
 use Rattle.connection.proofs.Connection.empty.Tie as tie
@@ -9,11 +9,8 @@ empty-requires c κs = search rules
 empty-requires-2 : tie.Need-empty-requires-2
 empty-requires-2 c κs = search rules
 
-empty-requires-3 : tie.Need-empty-requires-3
-empty-requires-3 c κs = search rules
-
 returns : tie.Need-returns
-returns c i = record { sender = c.before.before.empty.ensures i; receiver = c.before.empty2.ensures i; mpr = c.empty3.ensures i }
+returns c i = record { sender = c.before.empty.ensures i; receiver = c.empty2.ensures i }
 
 pub empty_spec : {M : Type 1} → statement M
-empty_spec = tie.close (tie.spec empty-requires empty-requires-2 empty-requires-3 returns)
+empty_spec = tie.close (tie.spec empty-requires empty-requires-2 returns)

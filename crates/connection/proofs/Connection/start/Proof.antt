@@ -30,7 +30,7 @@ refused_by e i p t r said =
 
 -- the entry, from where each test was passed
 abbrev from-room : tie.Else1 → tie.After-empty
-from-room c = c.before.before.before.before.before.before
+from-room c = c.before.before.before.before.before
 
 abbrev from-room-2 : tie.Else2 → tie.After-empty
 from-room-2 c = from-room c.before.before.before
@@ -74,7 +74,7 @@ returns : tie.Need-returns
 unfolding start_refusals test number Past
 returns c =
     let room = c.before.before.room_ok in
-    let e = c.before.before.before.before.before.before.before in
+    let e = c.before.before.before.before.before.before in
     refused_by e 0 tt (ap not (sym room.ensures) ∙ c.before.if1.true) c.refused.result c.refused.ensures
 
 cast-room-ok-2 : tie.Need-overflow-cast-room-ok-2
@@ -125,24 +125,13 @@ start-requires c κs = search rules
 start-requires-2 : tie.Need-start-requires-2
 start-requires-2 c κs = search rules
 
-cast-fresh : tie.Need-overflow-cast-fresh
-cast-fresh c = search rules
-
-cast-fresh-2 : tie.Need-overflow-cast-fresh-2
-cast-fresh-2 c = search rules
-
-fresh-requires : tie.Need-fresh-requires
-fresh-requires c κs = search rules
-
 returns-5 : tie.Need-returns-5
 unfolding start_refusals
 returns-5 c =
-    let begun = c.before.before.before.before.before in
-    let receiving = begun.start2 in
-    let sending = begun.before.start in
-    let p = begun.before.before in
+    let receiving = c.before.before.start2 in
+    let sending = c.before.before.before.start in
+    let p = c.before.before.before.before in
     starts (from-psn-2 p).before.args.opening (past_psn_2 p) sending.result receiving.result sending.ensures receiving.ensures
-    c.fresh.result c.fresh.ensures
 
 pub start_spec : {M : Type 1} → statement M
 start_spec =
@@ -165,7 +154,4 @@ start_spec =
     returns-4
     start-requires
     start-requires-2
-    cast-fresh
-    cast-fresh-2
-    fresh-requires
     returns-5)

@@ -1,10 +1,9 @@
--- `Connection::step` meets its contract: a close and what the host sets are the record's, and any other event is one of a side. Assumes
--- nothing.
+-- `Connection::step` meets its contract: a close is the record's, and any other event is one of a side. Assumes nothing.
 use mathlib.Core.Path.{ap}
 use borrow.Author.Rules.{rules}
 use Rattle.rules.specs.Connection.{step}
 use Rattle.connection.specs.Record.{meaning}
-use Rattle.connection.proofs.Sides.{receiver_sound, by_receiver}
+use Rattle.connection.proofs.Sides.{sender_sound, receiver_sound, by_sender, by_receiver}
 use Rattle.connection.proofs.Connection.step.Statement.{statement}
 use Rattle.connection.proofs.Connection.step.Tie as tie
 
@@ -17,31 +16,33 @@ close-requires c κs = search rules
 enum-known-event : tie.Need-enum-known-event
 enum-known-event c = search rules
 
-sends-requires : tie.Need-sends-requires
-sends-requires c κs = search rules
+step-requires : tie.Need-step-requires
+step-requires c κs = let entry = c.before.before.before.before.before in sender_sound entry.args.self entry.requires
+
+sent-requires : tie.Need-sent-requires
+sent-requires c κs = search rules
 
 enum-known-event-2 : tie.Need-enum-known-event-2
 enum-known-event-2 c = search rules
 
-step-requires : tie.Need-step-requires
-step-requires c κs = let entry = c.before.before.before.before.before in receiver_sound entry.args.self entry.requires
+step-requires-2 : tie.Need-step-requires-2
+step-requires-2 c κs = let entry = c.before.before.before.before.before in receiver_sound entry.args.self entry.requires
 
 received-requires : tie.Need-received-requires
 received-requires c κs = search rules
-
-enum-known-event-3 : tie.Need-enum-known-event-3
-enum-known-event-3 c = search rules
-
-set-mpr-requires : tie.Need-set-mpr-requires
-set-mpr-requires c κs = search rules
 
 returns : tie.Need-returns
 unfolding step
 returns c = rw c.before.enum_told.given.1 c.close.ensures
 
 returns-2 : tie.Need-returns-2
-unfolding step
-returns-2 c = rw c.before.before.event.given.1 c.sends.ensures
+unfolding step meaning
+returns-2 c =
+    let v = c.before.before.before.event.given in
+    let entry = c.before.before.before.before.before.before.before in
+    let x = entry.args.self in
+    let out = c.before.step in
+    by_sender x entry.requires v.0.0 out.result (ap (step (meaning x)) v.1) c.sent.ensures out.ensures
 
 returns-3 : tie.Need-returns-3
 unfolding step meaning
@@ -49,12 +50,8 @@ returns-3 c =
     let v = c.before.before.before.event2.given in
     let entry = c.before.before.before.before.before.before.before in
     let x = entry.args.self in
-    let out = c.before.step in
+    let out = c.before.step2 in
     by_receiver x entry.requires v.0.0 out.result (ap (step (meaning x)) v.1) c.received.ensures out.ensures
-
-returns-4 : tie.Need-returns-4
-unfolding step
-returns-4 c = rw c.before.before.event3.given.1 c.set_mpr.ensures
 
 pub step_spec : {M : Type 1} → statement M
 step_spec =
@@ -63,13 +60,11 @@ step_spec =
     enum_told
     close-requires
     enum-known-event
-    sends-requires
-    enum-known-event-2
     step-requires
+    sent-requires
+    enum-known-event-2
+    step-requires-2
     received-requires
-    enum-known-event-3
-    set-mpr-requires
     returns
     returns-2
-    returns-3
-    returns-4)
+    returns-3)

@@ -28,7 +28,7 @@ returns c =
     record {
       started = with_count_started (lent_at e) _ e.requires;
       counted_is = means;
-      answer_is = ap (answer.Acked e.args.v) (c.sack.ensures ∙ ap (λ (r : Receiver). sack_of e.args.mpr r a) means);
+      answer_is = ap (answer.Acked e.args.v) (c.sack.ensures ∙ ap (λ (r : Receiver). sack_of r a) means);
     }
 
 pub acked_spec : {M : Type 1} → statement M

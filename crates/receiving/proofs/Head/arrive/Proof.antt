@@ -28,13 +28,13 @@ tests e = arrive_refusals (meaning (lent_at e)) e.args.a
 
 -- the i-th refuses, which leaves head and words
 refused_by : (e : tie.Start) (i : ℕ) → Past (tests e) i → test (tests e) i ≡ true → (r : Stepped)
-    → (r.answer ≡ answer.Refused (number (tests e) i)) × (r.«record» ≡ e.args.self) → Arrives (lent_at e) e.args.mpr e.args.a r e.args.words.now
+    → (r.answer ≡ answer.Refused (number (tests e) i)) × (r.«record» ≡ e.args.self) → Arrives (lent_at e) e.args.a r e.args.words.now
 unfolding arrive
 refused_by e i p t r said =
     let x = meaning (lent_at e) in
     let a = e.args.a in
     record {
-      meets = returns_at (tests e) (judged e.args.mpr x a (verdict x a)) refl i p t (on_refusal said.0) (ap (λ (h : Head). lent h e.args.words.now) said.1)
+      meets = returns_at (tests e) (judged x a (verdict x a)) refl i p t (on_refusal said.0) (ap (λ (h : Head). lent h e.args.words.now) said.1)
           e.requires;
       long = refl;
     }
@@ -80,14 +80,13 @@ started c =
 
 -- none is left
 passes : (c : tie.After-judge) → let e = from-verdict c in
-    arrive e.args.mpr (meaning (lent_at e)) e.args.a ≡ judged e.args.mpr (meaning (lent_at e)) e.args.a c.judge.result
+    arrive (meaning (lent_at e)) e.args.a ≡ judged (meaning (lent_at e)) e.args.a c.judge.result
 unfolding arrive arrive_refusals
 passes c =
     let e = from-verdict c in
     let x = meaning (lent_at e) in
     let a = e.args.a in
-    let m = e.args.mpr in
-    none_left (tests e) (judged m x a (verdict x a)) (past_flags c.before.before) ∙ ap (judged m x a) (sym c.judge.ensures)
+    none_left (tests e) (judged x a (verdict x a)) (past_flags c.before.before) ∙ ap (judged x a) (sym c.judge.ensures)
 
 -- the verdicts that are left
 not_fresh : (c : tie.At-match-keys2) → c.before.judge.result ≡ Fresh → ⊥
@@ -173,11 +172,10 @@ returns-5 c =
     let a = e.args.a in
     let r = meaning (lent_at e) in
     let r' = counted (accept r a) a in
-    let m = e.args.mpr in
     let next = ap (λ (s : Receiver). counted s a) accepted.accepted_is in
     record {
-      meets = does r' (answer.Acked Fresh (sack_of m r' a)) (passes v ∙ ap (judged m r a) fresh)
-          (acks.answer_is ∙ ap₂ answer.Acked fresh (ap (λ (s : Receiver). sack_of m s a) next)) (acks.counted_is ∙ next) (inr acks.started);
+      meets = does r' (answer.Acked Fresh (sack_of r' a)) (passes v ∙ ap (judged r a) fresh)
+          (acks.answer_is ∙ ap₂ answer.Acked fresh (ap (λ (s : Receiver). sack_of s a) next)) (acks.counted_is ∙ next) (inr acks.started);
       long = search rules;
     }
 
@@ -200,10 +198,9 @@ returns-6 c =
     let a = e.args.a in
     let r = meaning (lent_at e) in
     let r' = counted r a in
-    let m = e.args.mpr in
     record {
-      meets = does r' (answer.Acked Known (sack_of m r' a)) (passes v ∙ ap (judged m r a) known)
-          (acks.answer_is ∙ ap (λ (u : Verdict). answer.Acked u (sack_of m r' a)) known) acks.counted_is (inr acks.started);
+      meets = does r' (answer.Acked Known (sack_of r' a)) (passes v ∙ ap (judged r a) known)
+          (acks.answer_is ∙ ap (λ (u : Verdict). answer.Acked u (sack_of r' a)) known) acks.counted_is (inr acks.started);
       long = refl;
     }
 
@@ -220,7 +217,7 @@ returns-7 c =
     let e = from-verdict v in
     let a = e.args.a in
     let r = meaning (lent_at e) in
-    let o = passes v ∙ judged_nack r a e.args.mpr v.judge.result (not_fresh m.before) (not_known m) in
+    let o = passes v ∙ judged_nack r a v.judge.result (not_fresh m.before) (not_known m) in
     record {
       meets = does r (answer.Nacked v.judge.result (nack_of v.judge.result a)) o (ap (answer.Nacked v.judge.result) c.nack.ensures) refl
           e.pre;

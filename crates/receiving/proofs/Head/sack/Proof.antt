@@ -72,7 +72,7 @@ returns c =
       cack = record { 0 = cack i };
       block = block i;
       count = e.args.self.count / 256;
-      mpr = e.args.mpr;
+      mpr = 0;
       entropy = a.entropy;
       rtx = rtx i;
       mark = mark i;

@@ -73,10 +73,10 @@ refused-requires c κs = search rules
 
 returns : tie.Need-returns
 unfolding step nack nack_refusals Past test number
-returns c limit =
+returns c =
     let e = c.before.before.before.before.before.before in
     let idle = is_unused (lent_at e) c.before.if1.true in
-    refused_by (lent_at e) e.requires limit (event e) (tests e) _ refl 0 tt idle c.refused.result c.refused.ensures
+    refused_by (lent_at e) e.requires (event e) (tests e) _ refl 0 tt idle c.refused.result c.refused.ensures
 
 psn-ok-requires : tie.Need-psn-ok-requires
 psn-ok-requires c κs = search rules
@@ -86,10 +86,10 @@ refused-requires-2 c κs = search rules
 
 returns-2 : tie.Need-returns-2
 unfolding step nack nack_refusals test number
-returns-2 c limit =
+returns-2 c =
     let e = c.before.before.before.before.before.before.before.before in
     let high = sym (ap not c.before.before.psn_ok.ensures) ∙ c.before.if2.true in
-    refused_by (lent_at e) e.requires limit (event e) (tests e) _ refl 1 (past_unused c.before.before.before) high c.refused2.result c.refused2.ensures
+    refused_by (lent_at e) e.requires (event e) (tests e) _ refl 1 (past_unused c.before.before.before) high c.refused2.result c.refused2.ensures
 
 reason-ok-requires : tie.Need-reason-ok-requires
 reason-ok-requires c κs = search rules
@@ -99,10 +99,10 @@ refused-requires-3 c κs = search rules
 
 returns-3 : tie.Need-returns-3
 unfolding step nack nack_refusals test number
-returns-3 c limit =
+returns-3 c =
     let e = c.before.before.before.before.before.before.before.before.before.before in
     let unknown = sym (ap not c.before.before.reason_ok.ensures) ∙ c.before.if3.true in
-    refused_by (lent_at e) e.requires limit (event e) (tests e) _ refl 2 (past_psn c.before.before.before) unknown c.refused3.result c.refused3.ensures
+    refused_by (lent_at e) e.requires (event e) (tests e) _ refl 2 (past_psn c.before.before.before) unknown c.refused3.result c.refused3.ensures
 
 unsent-requires : tie.Need-unsent-requires
 unsent-requires c κs = search rules
@@ -112,14 +112,14 @@ refused-requires-4 c κs = search rules
 
 returns-4 : tie.Need-returns-4
 unfolding step nack nack_refusals test number
-returns-4 c limit =
+returns-4 c =
     let e = c.before.before.before.before.before.before.before.before.before.before.before.before in
     let ahead = sym (unsent_is c.before.before) ∙ c.before.if4.true in
-    refused_by (lent_at e) e.requires limit (event e) (tests e) _ refl 3 (past_reason c.before.before.before) ahead c.refused4.result c.refused4.ensures
+    refused_by (lent_at e) e.requires (event e) (tests e) _ refl 3 (past_reason c.before.before.before) ahead c.refused4.result c.refused4.ensures
 
 returns-5 : tie.Need-returns-5
 unfolding step nack nack_refusals sizes_after
-returns-5 c limit =
+returns-5 c =
     let e = from-unsent c.before in
     let none = nacked_none (meaning (lent_at e)) e.args.psn.0 e.args.reason c.if5.true in
     record {
@@ -137,7 +137,7 @@ same_length c = search rules
 
 returns-6 : tie.Need-returns-6
 unfolding step nack nack_refusals sizes_after
-returns-6 c limit =
+returns-6 c =
     let fourth = c.before.before.before.before.before in
     let e = from-unsent fourth in
     let x = lent_at e in

@@ -1,15 +1,15 @@
--- `Head::resend` meets its contract: the rule's tests, the second and the third by the search, which leaves the marks as they are where it
--- finds none in range, and then what it found is handed out. Assumes nothing.
+-- `Head::resend` meets its contract: the rule's tests, the second by the search, which leaves the marks as they are where it finds none, and
+-- then what it found is handed out. Assumes nothing.
 use mathlib.Core.Path.{◌≡◌, refl, sym, ap, subst}
 use mathlib.Core.List.{List}
 use mathlib.Core.Logic.{inr}
 use Prim.Native.Nat.{ℕ}
 use native.Mathlib.Omega.{arith}
-use Rattle.row.specs.Row.{at, Becomes}
+use Rattle.row.specs.Row.{at}
 use Rattle.row.proofs.Settled.{Words, becomes_settled}
 use Rattle.marks.specs.Marks.{Takes, left_after}
 use Rattle.marks.specs.declared.Found.{Found}
-use Rattle.marks.specs.declared.Found.TheVariants.{Marked, Far, Nothing}
+use Rattle.marks.specs.declared.Found.TheVariants.{Marked, Nothing}
 use Rattle.promise.specs.Outcome.{Refusals}
 use Rattle.promise.proofs.Refusing.{Past, test, number, past}
 use Rattle.promise.proofs.Meeting.{passes, does}
@@ -20,7 +20,7 @@ use Rattle.rules.specs.declared.Sending.TheVariants as sending
 use Rattle.sending.specs.Lent.{Lent, lent, meaning, Started, sizes_after, Steps}
 use Rattle.sending.proofs.Entries.{few, in_use, is_unused, is_used}
 use Rattle.sending.proofs.Refused.{refused_by}
-use Rattle.sending.proofs.Resent.{none_marked, far_marked, out_of_range, some_marked, in_range, resent_is, resent_means, resent_started}
+use Rattle.sending.proofs.Resent.{none_marked, some_marked, resent_is, resent_means, resent_started}
 use borrow.Author.Rules.{rules}
 use Rattle.sending.proofs.Head.resend.Statement.{statement}
 use Rattle.sending.proofs.Head.resend.Tie as tie
@@ -30,7 +30,7 @@ lent_at e = lent e.args.self e.args.sizes.now e.args.retired.now e.args.marked.n
 
 -- the rule's tests
 abbrev tests : tie.Start → Refusals
-tests e = resend_refusals e.args.limit (meaning (lent_at e))
+tests e = resend_refusals (meaning (lent_at e))
 
 -- the entry, from where the first test was passed, and from where the search is done
 abbrev from-unused : tie.Else1 → tie.Start
@@ -52,18 +52,17 @@ abbrev row : tie.After-slice-known2 → List ℕ
 row c = c.before.before.take.new.0
 
 took : (c : tie.After-slice-known2) (r : Found) → c.before.before.take.result ≡ r
-    → let x = lent_at (searched c) in Takes x.marked x.head.place.0 x.head.outstanding (searched c).args.limit (row c) r
-took c r e =
-    let x = lent_at (searched c) in
-    subst (Takes x.marked x.head.place.0 x.head.outstanding (searched c).args.limit (row c)) e c.before.before.take.ensures
+    → let x = lent_at (searched c) in Takes x.marked x.head.place.0 x.head.outstanding (row c) r
+took c r e = let x = lent_at (searched c) in subst (Takes x.marked x.head.place.0 x.head.outstanding (row c)) e c.before.before.take.ensures
 
--- where none is handed out, it is the row that was lent
-row_is : (c : tie.After-slice-known2) → Becomes (searched c).args.marked.now (row c) (at (searched c).args.marked.now)
-    → row c ≡ (searched c).args.marked.now
-row_is c same =
+-- nothing found, it is the row that was lent
+row_is : (c : tie.After-slice-known2) → c.before.before.take.result ≡ Nothing → row c ≡ (searched c).args.marked.now
+unfolding left_after
+row_is c e =
     let ws = (searched c).args.marked.now in
     let small : Words ws = λ j l. (c.before.before.before.before.before.before.slice-known.given j).fits in
-    becomes_settled ws (row c) ws (at ws) (λ j l. (c.slice-known2.given j).fits) small same (record { long = refl; bits_are = λ p. refl })
+    becomes_settled ws (row c) ws (at ws) (λ j l. (c.slice-known2.given j).fits) small (took c Nothing e).marked_are
+    (record { long = refl; bits_are = λ p. refl })
 
 refused-requires : tie.Need-refused-requires
 refused-requires c κs = search rules
@@ -73,7 +72,7 @@ unfolding step resend resend_refusals Past test number
 returns c =
     let e = c.before.before.before.before.before.before in
     let idle = is_unused (lent_at e) c.before.if1.true in
-    refused_by (lent_at e) e.requires e.args.limit sending.Resend (tests e) _ refl 0 tt idle c.refused.result c.refused.ensures
+    refused_by (lent_at e) e.requires sending.Resend (tests e) _ refl 0 tt idle c.refused.result c.refused.ensures
 
 take-requires : tie.Need-take-requires
 take-requires c κs = let h = started c.before in record { place_low = h.place_low; few = omega (arith, few _ h) }
@@ -87,69 +86,44 @@ enum_told c = search rules
 refused-requires-2 : tie.Need-refused-requires-2
 refused-requires-2 c κs = search rules
 
-enum-told-2 : tie.Need-enum-told-2
-enum-told-2 c = search rules
-
-refused-requires-3 : tie.Need-refused-requires-3
-refused-requires-3 c κs = search rules
-
 same_length : tie.Need-same-length
 same_length c = search rules
 
 returns-2 : tie.Need-returns-2
-unfolding step resend resend_refusals resent sizes_after left_after test
+unfolding step resend resend_refusals test number
 returns-2 c =
     let found = c.before.before.before in
-    let p = c.before.psn.given.0.0 in
-    let out = took found (Marked p) c.before.psn.given.1 in
+    let nothing = c.before.enum_told.given.1 in
     let e = searched found in
     let x = lent_at e in
-    let limit = e.args.limit in
+    let none = none_marked x (took found Nothing nothing).finds in
     let first = c.before.before.before.before.before.before.before in
-    let h = started first in
-    let ws = row found in
-    let some = past (tests e) 1 (past_unused first) (some_marked x h limit p out.finds) in
-    record {
-      meets = passes (tests e) _ refl (past (tests e) 2 some (in_range x h limit p out.finds))
-          (does _ _ refl (ap answer.Resent (resent_is x h limit p out.finds)) (resent_means x h limit p out.finds ws out.marked_are)
-          (inr (resent_started x h limit p out.finds ws out.marked_are)));
-      sizes_are = refl;
-      retired_long = refl;
-      marked_long = out.marked_are.long;
-    }
+    let said = c.refused2 in
+    subst (Steps x sending.Resend said.result x.sizes x.retired) (sym (row_is found nothing))
+    (refused_by x e.pre sending.Resend (tests e) _ refl 1 (past_unused first) none said.result said.ensures)
 
 same-length-2 : tie.Need-same-length-2
 same-length-2 c = search rules
 
 returns-3 : tie.Need-returns-3
-unfolding step resend resend_refusals left_after test number
+unfolding step resend resend_refusals resent sizes_after left_after test
 returns-3 c =
     let found = c.before.before.before in
-    let out = took found Far c.before.enum_told.given.1 in
+    let p = c.before.psn.given.0.0 in
+    let out = took found (Marked p) c.before.psn.given.1 in
     let e = searched found in
     let x = lent_at e in
-    let limit = e.args.limit in
     let first = c.before.before.before.before.before.before.before in
-    let some = past (tests e) 1 (past_unused first) (far_marked x limit out.finds) in
-    let said = c.refused2 in
-    subst (Steps x limit sending.Resend said.result x.sizes x.retired) (sym (row_is found out.marked_are))
-    (refused_by x e.pre limit sending.Resend (tests e) _ refl 2 some (out_of_range x limit out.finds) said.result said.ensures)
-
-same-length-3 : tie.Need-same-length-3
-same-length-3 c = search rules
-
-returns-4 : tie.Need-returns-4
-unfolding step resend resend_refusals left_after test number
-returns-4 c =
-    let found = c.before.before.before in
-    let out = took found Nothing c.before.enum-told2.given.1 in
-    let e = searched found in
-    let x = lent_at e in
-    let limit = e.args.limit in
-    let first = c.before.before.before.before.before.before.before in
-    let said = c.refused3 in
-    subst (Steps x limit sending.Resend said.result x.sizes x.retired) (sym (row_is found out.marked_are))
-    (refused_by x e.pre limit sending.Resend (tests e) _ refl 1 (past_unused first) (none_marked x limit out.finds) said.result said.ensures)
+    let h = started first in
+    let ws = row found in
+    record {
+      meets = passes (tests e) _ refl (past (tests e) 1 (past_unused first) (some_marked x h p out.finds))
+          (does _ _ refl (ap answer.Resent (resent_is x h p out.finds)) (resent_means x h p out.finds ws out.marked_are)
+          (inr (resent_started x h p out.finds ws out.marked_are)));
+      sizes_are = refl;
+      retired_long = refl;
+      marked_long = out.marked_are.long;
+    }
 
 pub resend_spec : {M : Type 1} → statement M
 resend_spec =
@@ -161,11 +135,7 @@ resend_spec =
     enum-known-psn
     enum_told
     refused-requires-2
-    enum-told-2
-    refused-requires-3
     same_length
     returns-2
     same-length-2
-    returns-3
-    same-length-3
-    returns-4)
+    returns-3)

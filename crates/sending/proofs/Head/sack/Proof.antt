@@ -6,7 +6,6 @@ use Rattle.promise.proofs.Refusing.{Past, test, number, past}
 use Rattle.promise.proofs.Meeting.{passes}
 use Rattle.rules.specs.Retire.{names_unsent}
 use Rattle.rules.specs.Sending.{sack_refusals, sack, step}
-use Rattle.rules.specs.declared.Carried.{Carried}
 use Rattle.rules.specs.declared.Sending.{Sending}
 use Rattle.rules.specs.declared.Sending.TheVariants as sending
 use Rattle.sending.specs.Lent.{Lent, lent, meaning, sizes_after}
@@ -19,8 +18,8 @@ use Rattle.sending.proofs.Head.sack.Tie as tie
 abbrev lent_at : tie.Start → Lent
 lent_at e = lent e.args.self e.args.sizes.now e.args.retired.now e.args.marked.now
 
-abbrev event : tie.Start → Carried → Sending
-event e mpr = sending.Sack e.args.cack e.args.block mpr
+abbrev event : tie.Start → Sending
+event e = sending.Sack e.args.cack e.args.block
 
 -- the rule's tests
 abbrev tests : tie.Start → Refusals
@@ -75,10 +74,10 @@ refused-requires c κs = search rules
 
 returns : tie.Need-returns
 unfolding step sack sack_refusals Past test number
-returns c limit mpr =
+returns c =
     let e = c.before.before.before.before.before.before in
     let idle = is_unused (lent_at e) c.before.if1.true in
-    refused_by (lent_at e) e.requires limit (event e mpr) (tests e) _ refl 0 tt idle c.refused.result c.refused.ensures
+    refused_by (lent_at e) e.requires (event e) (tests e) _ refl 0 tt idle c.refused.result c.refused.ensures
 
 psn-ok-requires : tie.Need-psn-ok-requires
 psn-ok-requires c κs = search rules
@@ -88,10 +87,10 @@ refused-requires-2 c κs = search rules
 
 returns-2 : tie.Need-returns-2
 unfolding step sack sack_refusals test number
-returns-2 c limit mpr =
+returns-2 c =
     let e = c.before.before.before.before.before.before.before.before in
     let high = sym (ap not c.before.before.psn_ok.ensures) ∙ c.before.if2.true in
-    refused_by (lent_at e) e.requires limit (event e mpr) (tests e) _ refl 1 (past_unused c.before.before.before) high c.refused2.result c.refused2.ensures
+    refused_by (lent_at e) e.requires (event e) (tests e) _ refl 1 (past_unused c.before.before.before) high c.refused2.result c.refused2.ensures
 
 psn-ok-requires-2 : tie.Need-psn-ok-requires-2
 psn-ok-requires-2 c κs = search rules
@@ -101,10 +100,10 @@ refused-requires-3 c κs = search rules
 
 returns-3 : tie.Need-returns-3
 unfolding step sack sack_refusals test number
-returns-3 c limit mpr =
+returns-3 c =
     let e = c.before.before.before.before.before.before.before.before.before.before in
     let high = sym (ap not c.before.before.psn-ok2.ensures) ∙ c.before.if3.true in
-    refused_by (lent_at e) e.requires limit (event e mpr) (tests e) _ refl 2 (past_cack c.before.before.before) high c.refused3.result c.refused3.ensures
+    refused_by (lent_at e) e.requires (event e) (tests e) _ refl 2 (past_cack c.before.before.before) high c.refused3.result c.refused3.ensures
 
 contradicts-requires : tie.Need-contradicts-requires
 contradicts-requires c κs = search rules
@@ -117,22 +116,22 @@ refused-requires-4 c κs = search rules
 
 returns-4 : tie.Need-returns-4
 unfolding step sack sack_refusals test number
-returns-4 c limit mpr =
+returns-4 c =
     let base = c.before.before.before.before in
     let e = from-base base in
     let odd = sym c.before.before.before.contradicts.ensures ∙ c.before.if4.true in
-    refused_by (lent_at e) e.pre limit (event e mpr) (tests e) _ refl 3 (past_base base) odd c.refused4.result c.refused4.ensures
+    refused_by (lent_at e) e.pre (event e) (tests e) _ refl 3 (past_base base) odd c.refused4.result c.refused4.ensures
 
 refused-requires-5 : tie.Need-refused-requires-5
 refused-requires-5 c κs = search rules
 
 returns-5 : tie.Need-returns-5
 unfolding step sack sack_refusals test number
-returns-5 c limit mpr =
+returns-5 c =
     let earlier = c.before.before in
     let e = from-contradicts earlier in
     let ahead = sym (unsent_is earlier.before) ∙ c.before.if5.true in
-    refused_by (lent_at e) e.pre limit (event e mpr) (tests e) _ refl 4 (past_contradicts earlier) ahead c.refused5.result c.refused5.ensures
+    refused_by (lent_at e) e.pre (event e) (tests e) _ refl 4 (past_contradicts earlier) ahead c.refused5.result c.refused5.ensures
 
 acknowledge-requires : tie.Need-acknowledge-requires
 acknowledge-requires c κs =
@@ -150,7 +149,7 @@ same-length-2 c = search rules
 
 returns-6 : tie.Need-returns-6
 unfolding step sack sack_refusals sizes_after
-returns-6 c limit mpr =
+returns-6 c =
     let out = c.before.before.before.before.acknowledge.ensures in
     let last = c.before.before.before.before.before.before.before in
     record {

@@ -17,7 +17,7 @@ use Rattle.rules.specs.declared.Answer.TheVariants as answer
 use Rattle.rules.specs.declared.Sending.{Sending}
 use Rattle.rules.specs.declared.Sending.TheVariants as sending
 use Rattle.sending.specs.Lent.{Lent, lent, meaning, Started, sent_size, sizes_after}
-use Rattle.sending.proofs.Entries.{few, held_bound, in_use, next_is, is_unused, is_used, full_is, limit_is}
+use Rattle.sending.proofs.Entries.{few, held_bound, in_use, next_is, is_unused, is_used, full_is}
 use Rattle.sending.proofs.Refused.{refused_by}
 use Rattle.sending.proofs.Sent.{sent_at, sent_means, sent_started}
 use borrow.Author.Rules.{rules}
@@ -32,7 +32,7 @@ event e = sending.Send e.args.size
 
 -- the rule's tests
 abbrev tests : tie.Start → Refusals
-tests e = send_refusals e.args.limit (meaning (lent_at e)) e.args.size
+tests e = send_refusals (meaning (lent_at e)) e.args.size
 
 -- the entry, from where each test was passed
 abbrev from-unused : tie.Else1 → tie.Start
@@ -43,9 +43,6 @@ from-size c = from-unused c.before.before
 
 abbrev from-room : tie.Else3 → tie.Start
 from-room c = from-size c.before
-
-abbrev from-limit : tie.Else4 → tie.Start
-from-limit c = from-room c.before
 
 -- the tests that were passed
 past_unused : (c : tie.Else1) → Past (tests (from-unused c)) 1
@@ -65,15 +62,9 @@ past_room c =
     let e = from-room c in
     past (tests e) 2 (past_size c.before) (full_is (lent_at e) ∙ lt-leb e.args.self.room e.args.self.outstanding c.if3.false)
 
-past_limit : (c : tie.Else4) → Past (tests (from-limit c)) 4
-unfolding send_refusals test
-past_limit c =
-    let e = from-limit c in
-    past (tests e) 3 (past_room c.before) (limit_is (lent_at e) e.args.limit ∙ lt-leb e.args.limit e.args.self.outstanding c.if4.false)
-
 -- past the first of them the sender was started
-started : (c : tie.Else4) → Started (lent_at (from-limit c))
-started c = in_use (lent_at (from-limit c)) (from-limit c).requires c.before.before.before.before.if1.false
+started : (c : tie.Else3) → Started (lent_at (from-room c))
+started c = in_use (lent_at (from-room c)) (from-room c).requires c.before.before.before.if1.false
 
 refused-requires : tie.Need-refused-requires
 refused-requires c κs = search rules
@@ -83,7 +74,7 @@ unfolding step send send_refusals Past test number
 returns c =
     let e = c.before.before.before.before.before in
     let idle = is_unused (lent_at e) c.before.if1.true in
-    refused_by (lent_at e) e.requires e.args.limit (event e) (tests e) _ refl 0 tt idle c.refused.result c.refused.ensures
+    refused_by (lent_at e) e.requires (event e) (tests e) _ refl 0 tt idle c.refused.result c.refused.ensures
 
 size-ok-requires : tie.Need-size-ok-requires
 size-ok-requires c κs = search rules
@@ -96,7 +87,7 @@ unfolding step send send_refusals test number
 returns-2 c =
     let e = c.before.before.before.before.before.before.before in
     let bad = sym (ap not c.before.before.size_ok.ensures) ∙ c.before.if2.true in
-    refused_by (lent_at e) e.requires e.args.limit (event e) (tests e) _ refl 1 (past_unused c.before.before.before) bad c.refused2.result c.refused2.ensures
+    refused_by (lent_at e) e.requires (event e) (tests e) _ refl 1 (past_unused c.before.before.before) bad c.refused2.result c.refused2.ensures
 
 refused-requires-3 : tie.Need-refused-requires-3
 refused-requires-3 c κs = search rules
@@ -106,17 +97,7 @@ unfolding step send send_refusals test number
 returns-3 c =
     let e = c.before.before.before.before.before.before.before.before in
     let full = full_is (lent_at e) ∙ le-leb e.args.self.room e.args.self.outstanding c.before.if3.true in
-    refused_by (lent_at e) e.requires e.args.limit (event e) (tests e) _ refl 2 (past_size c.before.before) full c.refused3.result c.refused3.ensures
-
-refused-requires-4 : tie.Need-refused-requires-4
-refused-requires-4 c κs = search rules
-
-returns-4 : tie.Need-returns-4
-unfolding step send send_refusals test number
-returns-4 c =
-    let e = c.before.before.before.before.before.before.before.before.before in
-    let full = limit_is (lent_at e) e.args.limit ∙ le-leb e.args.limit e.args.self.outstanding c.before.if4.true in
-    refused_by (lent_at e) e.requires e.args.limit (event e) (tests e) _ refl 3 (past_room c.before.before) full c.refused4.result c.refused4.ensures
+    refused_by (lent_at e) e.requires (event e) (tests e) _ refl 2 (past_size c.before.before) full c.refused3.result c.refused3.ensures
 
 add_at : tie.Need-overflow-add-at
 add_at c = omega (arith, (started c.before.before).place_low)
@@ -139,30 +120,30 @@ add-after c = omega (arith, few _ (started c.before.before))
 after-requires : tie.Need-after-requires
 after-requires c κs = search rules
 
-add-t14 : tie.Need-overflow-add-t14
-add-t14 c = omega (arith, few _ (started c.before.before.before))
+add-t13 : tie.Need-overflow-add-t13
+add-t13 c = omega (arith, few _ (started c.before.before.before))
 
-add-t20 : tie.Need-overflow-add-t20
-add-t20 c = let h = started c.before.before.before.before in omega (arith, held_bound _ h, few _ h)
+add-t19 : tie.Need-overflow-add-t19
+add-t19 c = let h = started c.before.before.before.before in omega (arith, held_bound _ h, few _ h)
 
 same_length : tie.Need-same-length
 same_length c = search rules
 
-returns-5 : tie.Need-returns-5
+returns-4 : tie.Need-returns-4
 unfolding step send send_refusals sent sizes_after sent_size
-returns-5 c =
-    let last = c.before.before.before.before in
-    let e = from-limit last in
+returns-4 c =
+    let third = c.before.before.before.before in
+    let e = from-room third in
     let x = lent_at e in
     let size = e.args.size in
-    let h = started last in
-    let ok = good_size c.before.before.before.before.before.before in
-    let free = last.before.if3.false in
+    let h = started third in
+    let ok = good_size c.before.before.before.before.before in
+    let free = third.if3.false in
     let place = c.before.after.ensures in
     let given = ap (λ (p : ℕ). answer.Sent (psn p)) (place ∙ sym (next_is x)) in
     let there = sent_at x.head.place.0 x.head.outstanding ∙ ap (λ (p : ℕ). p % largest_room) (sym place) in
     record {
-      meets = passes (tests e) _ refl (past_limit last) (does _ _ refl given (sent_means x h size ok free) (inr (sent_started x h size ok free)));
+      meets = passes (tests e) _ refl (past_room third) (does _ _ refl given (sent_means x h size ok free) (inr (sent_started x h size ok free)));
       sizes_are = ap (λ (n : ℕ). set x.sizes n size) there;
       retired_long = refl;
       marked_long = refl;
@@ -179,8 +160,6 @@ send_spec =
     returns-2
     refused-requires-3
     returns-3
-    refused-requires-4
-    returns-4
     add_at
     add-at-2
     cast-at
@@ -188,7 +167,7 @@ send_spec =
     slice-write-sizes
     add-after
     after-requires
-    add-t14
-    add-t20
+    add-t13
+    add-t19
     same_length
-    returns-5)
+    returns-4)

@@ -39,7 +39,7 @@ same-length-6 c = search rules
 returns-2 : tie.Need-returns-2
 returns-2 c =
     let out = c.before.before.before.before in
-    rw out.before.before.before.before.before.event2.given.1 (out.sack.ensures _ _)
+    rw out.before.before.before.before.before.event2.given.1 out.sack.ensures
 
 enum-known-event-3 : tie.Need-enum-known-event-3
 enum-known-event-3 c = search rules
@@ -57,7 +57,7 @@ same-length-9 : tie.Need-same-length-9
 same-length-9 c = search rules
 
 returns-3 : tie.Need-returns-3
-returns-3 c = rw c.before.before.before.before.before.before.before.event3.given.1 (c.before.before.nack.ensures _)
+returns-3 c = rw c.before.before.before.before.before.before.before.event3.given.1 c.before.before.nack.ensures
 
 enum-known-event-4 : tie.Need-enum-known-event-4
 enum-known-event-4 c = search rules
@@ -75,7 +75,7 @@ same-length-12 : tie.Need-same-length-12
 same-length-12 c = search rules
 
 returns-4 : tie.Need-returns-4
-returns-4 c = rw c.before.before.before.before.before.before.before.event4.given.1 (c.before.before.timer.ensures _)
+returns-4 c = rw c.before.before.before.before.before.before.before.event4.given.1 c.before.before.timer.ensures
 
 enum_told : tie.Need-enum-told
 enum_told c = search rules

@@ -66,10 +66,10 @@ refused-requires c κs = search rules
 
 returns : tie.Need-returns
 unfolding step timer timer_refusals Past test number
-returns c limit =
+returns c =
     let e = c.before.before.before.before.before.before in
     let idle = is_unused (lent_at e) c.before.if1.true in
-    refused_by (lent_at e) e.requires limit (event e) (tests e) _ refl 0 tt idle c.refused.result c.refused.ensures
+    refused_by (lent_at e) e.requires (event e) (tests e) _ refl 0 tt idle c.refused.result c.refused.ensures
 
 psn-ok-requires : tie.Need-psn-ok-requires
 psn-ok-requires c κs = search rules
@@ -79,10 +79,10 @@ refused-requires-2 c κs = search rules
 
 returns-2 : tie.Need-returns-2
 unfolding step timer timer_refusals test number
-returns-2 c limit =
+returns-2 c =
     let e = c.before.before.before.before.before.before.before.before in
     let high = sym (ap not c.before.before.psn_ok.ensures) ∙ c.before.if2.true in
-    refused_by (lent_at e) e.requires limit (event e) (tests e) _ refl 1 (past_unused c.before.before.before) high c.refused2.result c.refused2.ensures
+    refused_by (lent_at e) e.requires (event e) (tests e) _ refl 1 (past_unused c.before.before.before) high c.refused2.result c.refused2.ensures
 
 unsent-requires : tie.Need-unsent-requires
 unsent-requires c κs = search rules
@@ -92,10 +92,10 @@ refused-requires-3 c κs = search rules
 
 returns-3 : tie.Need-returns-3
 unfolding step timer timer_refusals test number
-returns-3 c limit =
+returns-3 c =
     let e = c.before.before.before.before.before.before.before.before.before.before in
     let ahead = sym (unsent_is c.before.before) ∙ c.before.if3.true in
-    refused_by (lent_at e) e.requires limit (event e) (tests e) _ refl 2 (past_psn c.before.before.before) ahead c.refused3.result c.refused3.ensures
+    refused_by (lent_at e) e.requires (event e) (tests e) _ refl 2 (past_psn c.before.before.before) ahead c.refused3.result c.refused3.ensures
 
 mark-psn-requires : tie.Need-mark-psn-requires
 mark-psn-requires c κs = let h = started c.before in record { place_low = h.place_low; few = omega (arith, few _ h) }
@@ -105,7 +105,7 @@ same_length c = search rules
 
 returns-4 : tie.Need-returns-4
 unfolding step timer timer_refusals sizes_after
-returns-4 c limit =
+returns-4 c =
     let third = c.before.before.before.before in
     let e = from-unsent third in
     let out = c.before.before.mark-psn in

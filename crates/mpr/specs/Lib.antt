@@ -1,2 +1,0 @@
--- Where a sender stands.
-pub mod Standing
