@@ -1,5 +1,7 @@
 // Big-endian fields, each so many bits wide, over lent bytes: how many bytes they take, reading them and writing them. The widths are
 // lent too, so that a record of a log and a message of the wire are lists of widths and nothing more.
+#![tactic(auto)]
+
 ghost use Rattle.std.specs.Prelude.{◌≡◌, ◌+◌, ◌-◌, ◌*◌, ◌%◌, ◌^◌, ◌≤◌, ◌<◌, min, length};
 ghost use Rattle.fields.specs.Fields.{Laid, Layout, decode, number, size as size_of, written};
 ghost use Rattle.fields.specs.Parts.{cut, placed, InBytes, Puts};

@@ -1,4 +1,6 @@
 // Packet numbers, round the circle of 2^24.
+#![tactic(auto)]
+
 ghost use Rattle.std.specs.Prelude.{◌≡◌};
 ghost use Rattle.psn.specs.Psn.{after, distance};
 

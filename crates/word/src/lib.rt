@@ -1,4 +1,6 @@
 // One 64-bit word, by its bits. Every function takes any word and any number; a bit's index counts modulo 64.
+#![tactic(auto)]
+
 ghost use Rattle.std.specs.Prelude.{◌≡◌, not, ◌&&◌, ◌||◌, ℕ, ◌+◌, ◌%◌, ◌<◌, eqb, ltb};
 ghost use Rattle.lists.specs.Index.{First, tally};
 ghost use Rattle.word.specs.Word.{bit_at, Bits, in_range, bit_of_two, only_in};

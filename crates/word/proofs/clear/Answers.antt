@@ -7,17 +7,9 @@ use lib.Bits.{bit_and}
 use lib.Pow.{pow-lt}
 use Rattle.word.specs.Word.{bit_at}
 use Rattle.word.proofs.Bits.{bit_and_not, bit_one, shl_one}
-use borrow.Author.Rules.{rules}
-use Rattle.word.proofs.clear.Statement.{statement}
-use Rattle.word.proofs.clear.Tie as tie
+use Rattle.word.proofs.clear.Goals as goal
 
-cast-result : tie.Need-overflow-cast-result
-cast-result c = search rules
-
-shl-result : tie.Need-overflow-shl-result
-shl-result c = search rules
-
-returns : tie.Need-returns
+pub returns : goal.returns
 returns c =
     λ k h.
     let w = c.args.w in
@@ -25,6 +17,3 @@ returns c =
     let l : i < 64 = omega arith in
     ap (λ (x : ℕ). bit_at (bit_and w ((2 ^ 64 - 1) - x)) k) (shl_one 64 i l)
     ∙ bit_and_not 64 w (2 ^ i) k (pow-lt l) h ∙ ap (λ (b : Bool). bit_at w k && not b) (bit_one i k)
-
-pub clear_spec : {M : Type 1} → statement M
-clear_spec = tie.close (tie.spec cast-result shl-result returns)
