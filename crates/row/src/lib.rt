@@ -1,4 +1,6 @@
 // A row of 64-bit words, any number of them, by its bits. A bit past the end reads clear and is not written.
+#![tactic(auto)]
+
 ghost use Rattle.std.specs.Prelude.{◌≡◌, true, ℕ, ◌+◌, ◌-◌, ◌*◌, ◌≤◌, ◌<◌, get_or};
 ghost use Rattle.lists.specs.Index.{First};
 ghost use Rattle.word.specs.Word.{Bits, in_range};

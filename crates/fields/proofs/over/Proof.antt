@@ -40,59 +40,59 @@ asked_lt c = placed_lt c.args.below c.args.many 8 c.args.v c.args.byte c.require
 
 -- the two sums, as the code makes them
 abbrev first-sum : tie.After-low → ℕ
-first-sum c = above c.before.before.args.below c.before.before.args.many c.before.wide.result % 2 ^ 64 + c.low.result
+first-sum c = above c.before.before.args.below c.before.before.args.many c.before.wide-old.result % 2 ^ 64 + c.low.result
 
-abbrev second-sum : tie.After-low2 → ℕ
-second-sum c = first-sum c.before * 2 ^ c.before.before.before.args.below % 2 ^ 64 + c.low2.result
+abbrev second-sum : tie.After-low-2 → ℕ
+second-sum c = first-sum c.before * 2 ^ c.before.before.before.args.below % 2 ^ 64 + c.low-2.result
 
 first_is : (c : tie.After-low)
     → first-sum c ≡ upper c.before.before.args.below c.before.before.args.many c.before.before.args.v c.before.before.args.byte
 first_is c =
     let entry = c.before.before in
     let a = entry.args in
-    ap₂ (λ (x y : ℕ). above a.below a.many x % 2 ^ 64 + y) c.before.wide.ensures c.low.ensures
+    ap₂ (λ (x y : ℕ). above a.below a.many x % 2 ^ 64 + y) c.before.wide-old.ensures c.low.ensures
     ∙ ap (λ (x : ℕ). x + a.v % 2 ^ a.many) (shl_above a.below a.many a.v a.byte entry.requires entry.ranges.byte.fits)
 
-second_is : (c : tie.After-low2) → second-sum c ≡ asked c.before.before.before
+second_is : (c : tie.After-low-2) → second-sum c ≡ asked c.before.before.before
 unfolding placed
 second_is c =
     let entry = c.before.before.before in
     let a = entry.args in
     ap₂ (λ (x y : ℕ). x * 2 ^ a.below % 2 ^ 64 + y) (first_is c.before)
-    (c.low2.ensures ∙ ap (λ (x : ℕ). x % 2 ^ a.below) c.before.before.wide.ensures)
+    (c.low-2.ensures ∙ ap (λ (x : ℕ). x % 2 ^ a.below) c.before.before.wide-old.ensures)
     ∙ ap (λ (x : ℕ). x + a.byte % 2 ^ a.below) (shl_upper a.below a.many a.v a.byte entry.requires entry.ranges.byte.fits)
 
-wide-requires : tie.Need-wide-requires
+wide-requires : tie.Need-wide-old-requires
 wide-requires c κs = search rules
 
-add-above : tie.Need-overflow-add-above
+add-above : tie.Need-overflow_add-above
 add-above c = search rules
 
-shr-above : tie.Need-overflow-shr-above
+shr-above : tie.Need-overflow_shr-above
 shr-above c = search rules
 
-shl-result : tie.Need-overflow-shl-result
+shl-result : tie.Need-overflow_shl-result
 shl-result c = search rules
 
 low-requires : tie.Need-low-requires
 low-requires c κs = search rules
 
-add-result : tie.Need-overflow-add-result
+add-result : tie.Need-overflow_add-result
 add-result c =
     let entry = c.before.before in
     let a = entry.args in
     omega (arith, first_is c, upper_lt a.below a.many a.v a.byte entry.requires entry.ranges.byte.fits)
 
-shl-result-2 : tie.Need-overflow-shl-result-2
+shl-result-2 : tie.Need-overflow_shl-result-2
 shl-result-2 c = search rules
 
 low-requires-2 : tie.Need-low-requires-2
 low-requires-2 c κs = search rules
 
-add-result-2 : tie.Need-overflow-add-result-2
+add-result-2 : tie.Need-overflow_add-result-2
 add-result-2 c = omega (arith, second_is c, asked_lt c.before.before.before)
 
-cast-result : tie.Need-overflow-cast-result
+cast-result : tie.Need-overflow_cast-result
 cast-result c = omega (arith, second_is c, asked_lt c.before.before.before)
 
 returns : tie.Need-returns

@@ -1,28 +1,20 @@
 -- `fields::low` meets its contract: one less than a power of two masks the bits below. Assumes nothing.
-use borrow.Author.Rules.{rules}
 use mathlib.Core.Path.{◌≡◌, ap, ◌∙◌}
 use Prim.Native.Nat.{ℕ, ◌-◌, ◌*◌, ◌%◌, ◌^◌, ◌≤◌}
 use native.Mathlib.Nat.{one-mul}
 use native.Mathlib.Omega.{arith}
 use lib.Bits.{bit_and, and_mask}
 use lib.Pow.{pow_pos, shl_exact}
-use Rattle.fields.proofs.low.Statement.{statement}
-use Rattle.fields.proofs.low.Tie as tie
+use Rattle.fields.proofs.low.Goals as goal
 
 one : (k : ℕ) → k ≤ 8 → (1 * 2 ^ k) % 2 ^ 64 ≡ 2 ^ k
 one k h = shl_exact {a = 1} 1 k 64 (omega arith) (omega arith) ∙ one-mul (2 ^ k)
 
-shl-result : tie.Need-overflow-shl-result
-shl-result c = search rules
+pub overflow_sub-result : goal.overflow_sub-result
+overflow_sub-result c = omega (arith, one c.args.many c.requires, pow_pos c.args.many)
 
-sub-result : tie.Need-overflow-sub-result
-sub-result c = omega (arith, one c.args.many c.requires, pow_pos c.args.many)
-
-returns : tie.Need-returns
+pub returns : goal.returns
 returns c =
     let v = c.args.v in
     let k = c.args.many in
     ap (λ (x : ℕ). bit_and v (x - 1)) (one k c.requires) ∙ and_mask v k
-
-pub low_spec : {M : Type 1} → statement M
-low_spec = tie.close (tie.spec shl-result sub-result returns)

@@ -9,9 +9,7 @@ use lib.ListN.{length-set}
 use borrow.Author.Tests.{eq-eqb, ne_eqb, lt-ltb, le-ltb}
 use Rattle.row.specs.Row.{at, bits}
 use Rattle.row.proofs.Rows.{row_put}
-use borrow.Author.Rules.{rules}
-use Rattle.row.proofs.set.Statement.{statement}
-use Rattle.row.proofs.set.Tie as tie
+use Rattle.row.proofs.set.Goals as goal
 
 -- that a bit is there changes nothing where p is in the row
 inside : (k p n : ℕ) → p < n → (eqb k p && ltb k n) ≡ eqb k p
@@ -28,29 +26,8 @@ outside k p n h = go (ℕ_discrete k p)
     go (yes e) = rw (eq-eqb k p e, le-ltb k n (omega arith))
     go (no e) = rw (ne_eqb k p e)
 
-cast-j : tie.Need-overflow-cast-j
-cast-j c = search rules
-
-mul-set : tie.Need-overflow-mul-set
-mul-set c = search rules
-
-slice-read-set : tie.Need-slice-read-set
-slice-read-set c = search rules
-
-set-requires : tie.Need-set-requires
-set-requires c κs = search rules
-
-mul-ws : tie.Need-overflow-mul-ws
-mul-ws c = search rules
-
-slice-write-ws : tie.Need-slice-write-ws
-slice-write-ws c = search rules
-
-same_length : tie.Need-same-length
-same_length c = search rules
-
-returns : tie.Need-returns
-returns c =
+pub returns-then-j-ws : goal.returns-then-j-ws
+returns-then-j-ws c =
     let entry = c.before.before.before.before in
     let ws = entry.args.ws.now in
     let p = entry.args.p in
@@ -60,8 +37,8 @@ returns c =
           ∙ ap (λ (b : Bool). at ws k || b) (sym (inside k p (bits ws) (omega arith)));
     }
 
-returns-2 : tie.Need-returns-2
-returns-2 c =
+pub returns-else-j-ws : goal.returns-else-j-ws
+returns-else-j-ws c =
     let entry = c.before.before in
     let ws = entry.args.ws.now in
     let p = entry.args.p in
@@ -69,17 +46,3 @@ returns-2 c =
       long = refl;
       bits_are = λ k. sym (ap (λ (b : Bool). at ws k || b) (outside k p (bits ws) (omega arith)) ∙ or-false (at ws k));
     }
-
-pub set_spec : {M : Type 1} → statement M
-set_spec =
-    tie.close
-    (tie.spec
-    cast-j
-    mul-set
-    slice-read-set
-    set-requires
-    mul-ws
-    slice-write-ws
-    same_length
-    returns
-    returns-2)

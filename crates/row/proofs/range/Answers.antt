@@ -5,29 +5,15 @@ use Prim.Native.Nat.{ℕ, suc, ◌+◌, ◌-◌, ◌*◌}
 use native.Mathlib.Omega.{arith}
 use Rattle.word.specs.Word.{in_range}
 use Rattle.word.proofs.Compare.{leb_same}
-use borrow.Author.Rules.{rules}
-use Rattle.row.proofs.range.Statement.{statement}
-use Rattle.row.proofs.range.Tie as tie
+use Rattle.row.proofs.range.Goals as goal
 
-from-word-requires : tie.Need-from-word-requires
-from-word-requires c κs = search rules
-
-from-word-requires-2 : tie.Need-from-word-requires-2
-from-word-requires-2 c κs = search rules
-
-range-requires : tie.Need-range-requires
-range-requires c κs = search rules
-
-returns : tie.Need-returns
+pub returns : goal.returns
 returns c =
     λ i h.
     let entry = c.before.before.before in
     let a = entry.args.a in
     let b = entry.args.b in
     let m = 64 * entry.args.j in
-    c.range.ensures i h ∙ ap₂ (λ (x y : ℕ). in_range x y i) c.before.before.from-word.ensures c.before.from-word2.ensures
+    c.range.ensures i h ∙ ap₂ (λ (x y : ℕ). in_range x y i) c.from_word.ensures c.from_word-2.ensures
     ∙ ap₂ (λ (x y : Bool). x && y) (leb_same (a - m) i a (m + i) (λ k. omega arith) (λ k. omega arith))
     (leb_same (suc i) (b - m) (suc (m + i)) b (λ k. omega arith) (λ k. omega arith))
-
-pub range_spec : {M : Type 1} → statement M
-range_spec = tie.close (tie.spec from-word-requires from-word-requires-2 range-requires returns)
