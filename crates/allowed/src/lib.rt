@@ -1,4 +1,6 @@
 // Which numbers an event may carry. Every function takes any number.
+#![tactic(auto)]
+
 ghost use Rattle.std.specs.Prelude.{◌≡◌, ◌%◌};
 ghost use Rattle.word.specs.Word.{bit_at};
 ghost use Rattle.rules.specs.Numbers.{psn_ok, room_ok, size_ok, flags_ok, reason_ok};

@@ -1,6 +1,8 @@
 // The library by calls: reads calls from standard input and answers each with a line of numbers, so that what no log shows can be compared too. A
 // call is eight numbers of 8 bytes, big-endian: the op, a, b, c and four fields. One that is out of this program's own range is answered by its op
 // and a question mark, and changes nothing. The program keeps a table of 20 slots and 33,000 bytes for logs.
+#![tactic(auto)]
+
 ghost use Rattle.std.specs.Prelude.{◌≤◌};
 ghost use Rattle.receiving.specs.Lent.{Sound as SoundLent};
 ghost use Rattle.receiver.specs.Record.{lent_of, Sound};

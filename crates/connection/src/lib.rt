@@ -1,4 +1,6 @@
 // One connection by value: a sender and a receiver that share nothing. An event touches one side, and the other comes back as it was.
+#![tactic(auto)]
+
 ghost use Rattle.std.specs.Prelude.{◌≡◌};
 ghost use Rattle.rules.specs.Connection.{close as close_of, start as start_of, step as step_of};
 ghost use Rattle.connection.specs.Record.{empty as empty_of, meaning, received_by, sent_by, Sound, Steps};

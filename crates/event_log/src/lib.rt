@@ -1,4 +1,6 @@
 // The reader and the writer of the event log.
+#![tactic(auto)]
+
 ghost use Rattle.std.specs.Prelude.{◌≡◌, ◌++◌, ◌+◌, ◌≤◌, length, drop};
 ghost use Rattle.rules.specs.Numbers.{longest_log};
 ghost use Rattle.rules.specs.Kinds.{kind_of};

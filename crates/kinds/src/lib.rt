@@ -1,4 +1,6 @@
 // What goes by kind in the event log: an event's kind and fields, how wide they are, and the event that they make. Nothing else does.
+#![tactic(auto)]
+
 ghost use Rattle.std.specs.Prelude.{◌≡◌, true};
 ghost use Rattle.rules.specs.Kinds.{kind_of, fields_of, event_of, kind_ok, layout as layout_of, width as width_of, widths as widths_of};
 ghost use Rattle.rules.specs.Log.{high_cell, high_psn};

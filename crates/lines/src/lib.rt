@@ -1,5 +1,7 @@
 // Text that is put together in a buffer that the caller lends: each function puts bytes from an index on and answers the index after
 // them. What no longer fits is left out.
+#![tactic(auto)]
+
 ghost use Rattle.std.specs.Prelude.{[], ◌∷◌};
 ghost use Rattle.lines.specs.Text.{decimal as decimal_of, Puts};
 

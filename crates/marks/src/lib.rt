@@ -1,4 +1,6 @@
 // Marks for resending in lent rows of words: the rows begin at place + 1's own block of 64.
+#![tactic(auto)]
+
 ghost use Rattle.marks.specs.Marks.{Finds, MarksBit, Marks, Reach, Takes};
 
 use psn::Psn;

@@ -1,4 +1,6 @@
 // What an answer is on paper: its number, and the values that its line shows.
+#![tactic(auto)]
+
 ghost use Rattle.std.specs.Prelude.{◌≡◌, [], ◌∷◌};
 ghost use Rattle.rules.specs.Paper.{code as code_of, digit as digit_of};
 ghost use Rattle.paper.specs.Shown.{filled, shown};

@@ -1,5 +1,7 @@
 // The replay of a log, piece by piece: one record after the other, from empty slots on, and their lines in a buffer that the caller lends. The slots
 // stand in the one function that loops; a record copies the slot that it names, and no other.
+#![tactic(auto)]
+
 ghost use Rattle.std.specs.Prelude.{◌≡◌};
 ghost use Rattle.player.specs.Play.{begin as begin_of, Sound};
 ghost use Rattle.player.specs.Piece.{in_buffer as in_buffer_of, Pieces};

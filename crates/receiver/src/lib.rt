@@ -1,4 +1,6 @@
 // The receiving side by value: a head beside its own words.
+#![tactic(auto)]
+
 ghost use Rattle.std.specs.Prelude.{◌≡◌};
 ghost use Rattle.rules.specs.Receiver.{start as start_of};
 ghost use Rattle.rules.specs.Receiving.{arrive as arrive_of, step as step_of};

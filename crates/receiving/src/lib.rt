@@ -1,5 +1,7 @@
 // The receiving side over lent words. They hold the packet numbers from E's own block of 64 on: bit b of word j is number 64 j + b of that block and
 // those after it. All before E are accepted, so their bits are set; no bit past the window is.
+#![tactic(auto)]
+
 ghost use Rattle.std.specs.Prelude.{◌≡◌};
 ghost use Rattle.rules.specs.Receiver.{nack_of, reason_of, sack_of, verdict};
 ghost use Rattle.rules.specs.declared.Verdict.TheVariants.{Fresh};

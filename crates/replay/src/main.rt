@@ -1,4 +1,6 @@
 // Replays a log from standard input: a line for each record, then what ends the log. A read that fails counts as the end of the input.
+#![tactic(auto)]
+
 ghost use Rattle.std.specs.Prelude.{◌≡◌, ◌+◌, ◌≤◌, length};
 ghost use Rattle.rules.specs.Numbers.{longest_log};
 ghost use Rattle.rules.specs.Replay.{replay as replay_of};

@@ -1,4 +1,6 @@
 // What a SACK says, and what it does to lent rows of words: bit p of a row is the packet number p after the row's first.
+#![tactic(auto)]
+
 ghost use Rattle.std.specs.Prelude.{◌≡◌, ◌+◌, ◌*◌, ◌%◌, ◌≤◌, ◌<◌, length};
 ghost use Rattle.psn.specs.Psn.{turn};
 ghost use Rattle.lists.specs.Index.{weigh};

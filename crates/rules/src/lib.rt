@@ -1,4 +1,6 @@
 // The plain types that the crates share: events, answers, what a log's reader and writer give. Document 01 as definitions over them stands in specs/.
+#![tactic(auto)]
+
 use psn::Psn;
 
 // How many slots of a table are used at the most.

@@ -1,4 +1,6 @@
 // The sending side by value: a head beside its own rows.
+#![tactic(auto)]
+
 ghost use Rattle.std.specs.Prelude.{◌≡◌};
 ghost use Rattle.rules.specs.Sender.{start as start_of};
 ghost use Rattle.rules.specs.Sending.{nack as nack_of, resend as resend_of, sack as sack_of, send as send_of, step as step_of, timer as timer_of};

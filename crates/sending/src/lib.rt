@@ -1,6 +1,8 @@
 // The sending side over lent rows. Words hold the packet numbers from place + 1's own block of 64 on: bit b of word j is number 64 j + b of that
 // block and those after it. All up to the place are retired, so their bits are set in that row. The sizes stand by packet number modulo the largest
 // room.
+#![tactic(auto)]
+
 ghost use Rattle.std.specs.Prelude.{◌≡◌, false};
 ghost use Rattle.rules.specs.Retire.{names_unsent};
 ghost use Rattle.sending.specs.Lent.{lent, meaning, Started, Sound, Steps, Acknowledges};

@@ -1,4 +1,6 @@
 // The lent table of connections. An event copies one slot, has it answered by value and stores it back.
+#![tactic(auto)]
+
 ghost use Rattle.std.specs.Prelude.{◌≡◌, length, replicate};
 ghost use Rattle.rules.specs.Table.{in_slot as in_slot_of};
 ghost use Rattle.connection.specs.Record.{empty as empty_of, meaning as meaning_of, Sound, Steps};

@@ -1,4 +1,6 @@
 // The text of a replay, line by line, in a buffer that the caller lends.
+#![tactic(auto)]
+
 ghost use Rattle.std.specs.Prelude.{◌≡◌, length, take};
 ghost use Rattle.lines.specs.Text.{Puts};
 ghost use Rattle.paper.specs.Shown.{most};

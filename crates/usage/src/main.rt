@@ -1,4 +1,6 @@
 // The library in use: a packet goes from one card to another, and its reply comes back. Nothing here needs a proof of its own.
+#![tactic(auto)]
+
 ghost use Rattle.connection.specs.Record.{Sound};
 
 use connection::Connection;
