@@ -11,7 +11,7 @@ pub const TURN: u32 = 16_777_216;
 pub const HALF: u32 = 8_388_608;
 
 // A packet number. It is below TURN in every record and reply; a caller may hold any 32 bits.
-#[derive(Drop)]
+#[derive(Clone, Copy)]
 pub struct Psn(pub u32);
 
 impl Psn {

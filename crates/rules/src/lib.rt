@@ -44,7 +44,7 @@ pub const NO_BUFFER: u32 = 4;
 pub const FLAGS_END: u8 = 32;
 
 // A packet as it arrives.
-#[derive(Drop)]
+#[derive(Clone, Copy)]
 pub struct Arrival {
     pub psn: Psn,
     pub size: u16,
@@ -53,25 +53,25 @@ pub struct Arrival {
 }
 
 // 64 packet numbers from the base on: bit i speaks of base + i.
-#[derive(Drop)]
+#[derive(Clone, Copy)]
 pub struct Block {
     pub base: Psn,
     pub bitmap: u64,
 }
 
 // The start of one side: its room and its first packet number.
-#[derive(Drop)]
+#[derive(Clone, Copy)]
 pub struct Opening {
     pub room: u16,
     pub first: Psn,
 }
 
 // What a connection may have beside its two sides. Nothing yet.
-#[derive(Drop)]
+#[derive(Clone, Copy)]
 pub struct Options {}
 
 // The start of a connection.
-#[derive(Drop)]
+#[derive(Clone, Copy)]
 pub struct Start {
     pub sending: Opening,
     pub receiving: Opening,
@@ -79,7 +79,7 @@ pub struct Start {
 }
 
 // An event of the sending side.
-#[derive(Drop)]
+#[derive(Clone, Copy)]
 pub enum Sending {
     Send { size: u16 },
     Sack { cack: Psn, block: Block },
@@ -92,7 +92,7 @@ pub enum Sending {
 pub type Receiving = Arrival;
 
 // What befalls a connection in use.
-#[derive(Drop)]
+#[derive(Clone, Copy)]
 pub enum Use {
     Close,
     Sends(Sending),
@@ -100,14 +100,14 @@ pub enum Use {
 }
 
 // An event on a slot.
-#[derive(Drop)]
+#[derive(Clone, Copy)]
 pub enum Event {
     Start(Start),
     Use(Use),
 }
 
 // How an arrival is judged.
-#[derive(Drop)]
+#[derive(Clone, Copy)]
 pub enum Verdict {
     Fresh,
     Known,
@@ -118,7 +118,7 @@ pub enum Verdict {
 }
 
 // The reply to a packet that is fresh or known. count is the receiver's count of bytes divided by 256.
-#[derive(Drop)]
+#[derive(Clone, Copy)]
 pub struct Sack {
     pub cack: Psn,
     pub block: Block,
@@ -130,7 +130,7 @@ pub struct Sack {
 }
 
 // The reply to any other packet. The reason is one of those that a sender takes.
-#[derive(Drop)]
+#[derive(Clone, Copy)]
 pub struct Nack {
     pub psn: Psn,
     pub reason: u8,
@@ -140,7 +140,7 @@ pub struct Nack {
 
 // What a SACK did: packets newly retired, the place and the held bytes after it, and the false alarms, those of the newly retired that were
 // marked.
-#[derive(Drop)]
+#[derive(Clone, Copy)]
 pub struct Report {
     pub newly: u32,
     pub place: Psn,
@@ -149,7 +149,7 @@ pub struct Report {
 }
 
 // The answer to an event.
-#[derive(Drop)]
+#[derive(Clone, Copy)]
 pub enum Answer {
     // The number of the refusal.
     Refused(u8),
@@ -169,14 +169,14 @@ pub enum Answer {
 }
 
 // A field of a record: a packet number, or a number of so many bits.
-#[derive(Drop)]
+#[derive(Clone, Copy)]
 pub enum Cell {
     Psn,
     Bits(u8),
 }
 
 // What reading a log at a place gives.
-#[derive(Drop)]
+#[derive(Clone, Copy)]
 pub enum Read {
     Record {
         slot: u8,
@@ -189,7 +189,7 @@ pub enum Read {
 }
 
 // What writing a record gives.
-#[derive(Drop)]
+#[derive(Clone, Copy)]
 pub enum Written {
     // The number of the refusal.
     Refused(u8),
