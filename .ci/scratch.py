@@ -6,36 +6,47 @@ import shutil
 import subprocess
 
 top = pathlib.Path.cwd()
+
+
+class Place:
+    """Where an error stands: the file below crates/, the line, the declaration."""
+
+    def __init__(self, file, line, name):
+        self.file, self.line, self.name = file, line, name
+
+    def __str__(self):
+        return f"{self.file}:{self.line}: `{self.name}`"
+
 words = re.compile(r"(file|old|new|do|call|right|wrong|claims|use|term):( |$)")
 
 # events on the bench's connection, one after the other: the number of the last answer, and a value of its line
-words_of_terms = """use mathlib.Core.Path.{_≡_, refl}
-use mathlib.Core.List.{List, [], _∷_, map}
+words_of_terms = """use mathlib.Core.Path.{◌≡◌, refl}
+use mathlib.Core.List.{List, [], ◌∷◌, map}
 use Prim.Native.Nat.{ℕ}
-use lib.ListN.{length, getD, replicate}
-use Rattle·promise.specs.Line.{Line, refused}
-use Rattle·promise.specs.Outcome.{left}
-use Rattle·rules·specs.specs.Numbers.{psn}
-use Rattle·rules·specs.specs.Receiving.{Arrive}
-use Rattle·rules·specs.specs.Bench.{Row, Given, row, lines, bench, arrives, sacks}
-use Rattle·rules·specs.specs.declared.Sending.the-variants.{Send, Nack, Timer, Resend}
-use Rattle·rules·specs.specs.declared.Use.{Use}
-use Rattle·rules·specs.specs.declared.Use.the-variants.{Sends, Receives}
-use Rattle·rules·proofs.proofs.Unfold.{rules}
+use lib.ListN.{length, get_or, replicate}
+use Rattle.promise.specs.Line.{Line, refused}
+use Rattle.promise.specs.Outcome.{left}
+use Rattle.rules.specs.Numbers.{psn}
+use Rattle.rules.specs.Receiving.{Arrive}
+use Rattle.rules.specs.Bench.{Row, Given, row, lines, bench, arrives, sacks}
+use Rattle.rules.specs.declared.Sending.TheVariants.{Send, Nack, Timer, Resend}
+use Rattle.rules.specs.declared.Use.{Use}
+use Rattle.rules.specs.declared.Use.TheVariants.{Sends, Receives}
+use Rattle.rules.proofs.Unfold.{rules}
 
 unfoldable last : List Line → Line
 last [] = refused 0
 last (l ∷ []) = l
 last (l ∷ m ∷ n) = last (m ∷ n)
 
-unfoldable answer-to : List Use → Line
-answer-to es = last (lines bench (map (λ e. row Given e (refused 0)) es))
+unfoldable answer_to : List Use → Line
+answer_to es = last (lines bench (map (λ e. row Given e (refused 0)) es))
 
 abbrev number : List Use → ℕ
-number es = answer-to es .number
+number es = (answer_to es).number
 
 abbrev value : List Use → ℕ → ℕ
-value es i = getD (answer-to es .values) i 0
+value es i = get_or (answer_to es).values i 0
 
 abbrev sends : Use
 sends = Sends (Send 100)
@@ -60,7 +71,7 @@ def of_definition(lines):
 def lay(work, crates, bare, cited):
     """The crates of a scratch repository: no must-fail edits, of the bare ones the definitions alone, of `rules` the cited proofs alone."""
     for crate in crates:
-        shutil.copytree(top / "crates" / crate, work / "crates" / crate, ignore=shutil.ignore_patterns("must-fail"))
+        shutil.copytree(top / "crates" / crate, work / "crates" / crate, ignore=shutil.ignore_patterns("must-fail", "out"))
     listed = [line for line in (top / "crates.txt").read_text().splitlines() if line.split(":")[0] in crates]
     (work / "crates.txt").write_text("\n".join(listed) + "\n")
     proofs = work / "crates/rules/proofs"
@@ -71,7 +82,7 @@ def lay(work, crates, bare, cited):
             path.unlink()
     for crate in bare:
         shutil.rmtree(work / "crates" / crate / "proofs")
-        (work / "crates" / crate / "src/lib.rt").write_text("// The definitions alone.\n")
+        (work / "crates" / crate / "src/lib.rt").write_text("// The definitions alone.\n#![tactic(auto)]\n")
     (proofs / "Lib.antt").write_text("".join(f"pub mod {name}\n" for name in cited))
 
 
@@ -92,11 +103,15 @@ def changed(work, lines, there="crates/rules/"):
     return lambda: [path.write_text(text) for path, text in before.items()]
 
 
-def check(work, *names):
-    """Whether all is proved, and the first error's place."""
-    done = subprocess.run(["rt", "check", *names], cwd=work, capture_output=True, text=True)
-    found = re.search(r"crates/(\S+?\.antt):(\d+):\d+: error: `([^`]+)`", done.stdout + done.stderr)
-    return done.returncode == 0, found
+def check(work, crate):
+    """Whether a crate is proved over those below it, and the first error's place: its crate, its file there, the line and the declaration."""
+    done = subprocess.run(["rt", "check"], cwd=work / "crates" / crate, capture_output=True, text=True)
+    said = done.stdout + done.stderr
+    found = re.search(r"^(\S+?\.antt):(\d+):\d+: error: `([^`]+)`", said, re.M)
+    if found is None:
+        return done.returncode == 0, None
+    file = (work / "crates" / crate / found.group(1)).resolve().relative_to((work / "crates").resolve())
+    return done.returncode == 0, Place(str(file), found.group(2), found.group(3))
 
 
 def claim(work, claims):
@@ -105,6 +120,6 @@ def claim(work, claims):
     uses = sorted({use for _, lines, _ in claims for key, use in lines if key == "use"})
     text = "".join(f"use {use}\n" for use in uses) + text
     for name, lines, value in claims:
-        named = name.replace("_", "-")
-        text += f"{named} : {first(lines, 'term')} ≡ {value}\nunfolding rules lines bench last answer-to\n{named} = refl\n\n"
+        named = re.sub(r"\W", "_", name) + "_is"
+        text += f"{named} : {first(lines, 'term')} ≡ {value}\nunfolding rules lines bench last answer_to\n{named} = refl\n\n"
     (work / "crates/rules/proofs/Witness.antt").write_text(text)
