@@ -9,7 +9,7 @@ use Rattle.word.proofs.Bits.{bits_one}
 use Rattle.row.specs.Row.{at}
 use Rattle.rules.specs.Numbers.{after, distance}
 use Rattle.lists.specs.Lists.{pack}
-use Rattle.rules.specs.Receiver.{room, block_at, block}
+use Rattle.rules.specs.Receiver.{block_at, block}
 use Rattle.rules.specs.declared.Block.{Block}
 use Rattle.rules.proofs.Allowed.{room_numbers}
 use Rattle.receiving.specs.Lent.{Lent, offset, accepted, meaning, Started}

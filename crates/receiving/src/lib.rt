@@ -13,7 +13,7 @@ use rules::{
 };
 
 // A receiver but for its words.
-#[derive(Drop)]
+#[derive(Clone, Copy)]
 pub struct Head {
     pub room: u32,
     pub expected: Psn,
