@@ -2,16 +2,22 @@
 -- Assumes nothing.
 use Prim.Native.Nat.{ℕ}
 use mathlib.Core.List.{List, ◌∷◌, Memᴰ}
-use Rattle.promise.specs.Outcome.{left}
+use Rattle.promise.specs.Outcome.{Outcome, left}
 use Rattle.rules.specs.Numbers.{psn}
 use Rattle.rules.specs.Paper.{answered}
 use Rattle.rules.specs.Receiving.{arrive}
 use Rattle.rules.specs.Receiving as receiving
 use Rattle.rules.specs.Sending.{send, timer, resend, step}
+use Rattle.rules.specs.declared.Answer.{Answer}
 use Rattle.delivery.specs.Wire.{Packet, Fate, arrival, Reply, hearing, Note, Near, Readable}
 use Rattle.delivery.specs.Network.{with_sender, on_send, on_resend, on_arrive}
 use Rattle.delivery.specs.Network.{sends, resends, timers, hears, arrives, then}
-use Rattle.delivery.specs.Rules.{given, rules, World, Run}
+use Rattle.delivery.specs.Rules.{Gives, given, rules, World, Run}
+
+-- what holds of the rule's answer and of the record that it leaves holds of what an event brings
+pub by_given : {S : Type 0} {x : S} {o : Outcome Answer S} {a : Answer} {y : S} (P : Answer → S → Type 0)
+    → P (answered o) (left x o) → Gives x o a y → P a y
+by_given P h given = h
 
 unfoldable pub rule_send : World → ℕ → World
 rule_send w z = let o = send w.sending z in on_send rules w z (answered o) (left w.sending o)

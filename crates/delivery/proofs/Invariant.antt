@@ -40,7 +40,7 @@ use Rattle.delivery.specs.Network.{Next, sends, resends, timers, hears, arrives,
 use Rattle.delivery.specs.Network as network
 use Rattle.delivery.specs.Rules.{given, rules, World, Run, begin}
 use Rattle.delivery.specs.Promise.{among, Once, adds, received}
-use Rattle.delivery.proofs.Effects.{rule_send, rule_resend, rule_timer, rule_hear, noted, rule_arrive}
+use Rattle.delivery.proofs.Effects.{by_given, rule_send, rule_resend, rule_timer, rule_hear, noted, rule_arrive}
 use Rattle.delivery.proofs.Rooms.{room_few}
 use Rattle.delivery.proofs.Places.{moved, stays}
 use Rattle.delivery.proofs.Sets.{at_least, plus, plus_same, plus_other, plus_more}
@@ -378,8 +378,8 @@ pub inv_next : {s : Start} {w u : World} → Inv s w → Next rules w u → Inv 
 unfolding rule_send rule_resend rule_timer rule_hear rule_arrive step receiving.step
 inv_next I (sends z a x given) = inv_send I z
 inv_next I (resends a x given) = inv_resend I
-inv_next I (timers p a x given) = inv_timer I p
-inv_next I (hears n m h a x given) = inv_hear I n m h
+inv_next {s} {w} I (timers p a x t) = by_given (λ b y. Inv s (with_sender rules w y)) (inv_timer I p) t
+inv_next {s} {w} I (hears n m h a x t) = by_given (λ b y. Inv s (with_sender rules w y)) (inv_hear I n m h) t
 inv_next I (arrives p m h f a q given) = inv_arrive I p (I.carried p m) h f
 inv_next I (beside_sender x e) = absurd e
 inv_next I (beside_receiver q e) = absurd e

@@ -27,7 +27,7 @@ use Rattle.delivery.specs.Network.{Next, sends, resends, timers, hears, arrives,
 use Rattle.delivery.specs.Rules.{given, rules, World, Run}
 use Rattle.delivery.specs.Promise.{among, retired_at}
 use Rattle.delivery.specs.Progress.{Retired, behind, ahead, Hears, Sacks, Retires}
-use Rattle.delivery.proofs.Effects.{rule_send, rule_resend, rule_timer}
+use Rattle.delivery.proofs.Effects.{by_given, rule_send, rule_resend, rule_timer}
 use Rattle.delivery.proofs.Places.{stays}
 use Rattle.delivery.proofs.Holds.{Tells, Says, before_here, in_block}
 use Rattle.delivery.proofs.Keeps.{nth_is, Quiet, quiet_self, quiet_update, quiet_timer, quiet_nack}
@@ -187,8 +187,9 @@ module _ {s : Start} {w : World} (I : Inv s w) where
   unfolding rule_send rule_resend rule_timer on_arrive step
   grows_next (sends z a x given) = grows_send w z
   grows_next (resends a x given) = grows_resend w
-  grows_next (timers p a x given) = grows_timer w p
-  grows_next (hears n there h a x given) = grows_heard n n.reply (I.told n there) h
+  grows_next (timers p a x t) = by_given (λ b y. Grows w (with_sender rules w y)) (grows_timer w p) t
+  grows_next (hears n there h a x t) =
+      by_given (λ b y. Grows w (with_sender rules w y)) (grows_heard n n.reply (I.told n there) h) t
   grows_next (arrives p there near f a r g) = grows_reply w r p.number _ (message a)
   grows_next (beside_sender x e) = absurd e
   grows_next (beside_receiver r e) = absurd e
@@ -198,12 +199,14 @@ module _ {s : Start} {w : World} (I : Inv s w) where
   next_retires (sends z a x g) n i S h = absurd h
   next_retires (resends a x g) n i S h = absurd h
   next_retires (timers p a x g) n i S h = absurd h
-  next_retires (hears m there r a x given) n i S h =
+  next_retires (hears m there r a x t) n i S h =
       let is : m.reply ≡ Acks S.accepting S.sack = ap (λ (y : Note). y.reply) h ∙ S.reply_is in
       let about : m.about ≡ i = ap (λ (y : Note). y.about) h ∙ S.about_is in
       let T = subst (Told s (among w.accepted) (length w.sent) m) is (I.told m there) in
       let R = subst (Readable w.low m) is r in
-      rw is (subst (Retired _) about (heard_retires m S.accepting S.sack T R))
+      let heard : Retired (with_sender rules w (left w.sending (step w.sending (hearing m.reply)))) i =
+      rw is (subst (Retired _) about (heard_retires m S.accepting S.sack T R)) in
+      by_given (λ b y. Retired (with_sender rules w y) i) heard t
   next_retires (arrives p there near f a r g) n i S h = absurd h
   next_retires (beside_sender x g) n i S h = absurd h
   next_retires (beside_receiver r g) n i S h = absurd h

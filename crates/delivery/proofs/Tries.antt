@@ -29,6 +29,7 @@ use Rattle.delivery.specs.Network.{Next, sends, resends, timers, hears, arrives,
 use Rattle.delivery.specs.Rules.{given, rules, World}
 use Rattle.delivery.specs.Promise.{among}
 use Rattle.delivery.specs.Progress.{is_marked, marked_at, Times, Resends, Marks, HandsOut}
+use Rattle.delivery.proofs.Effects.{by_given}
 use Rattle.delivery.proofs.Places.{stays}
 use Rattle.delivery.proofs.Keeps.{sender_used, place_moves}
 use Rattle.delivery.proofs.Taken.{sack_taken}
@@ -66,7 +67,8 @@ pub marks : Marks
 unfolding Times with_sender step
 marks s w u run some (sends z a x g) h = absurd h
 marks s w u run some (resends a x g) h = absurd h
-marks s w u run some (timers p a x given) h = rw h (timer_marks (invariant run) some)
+marks s w u run some (timers p a x t) h =
+    by_given (λ b y. marked_at y 0 ≡ true) (rw h (timer_marks (invariant run) some)) t
 marks s w u run some (hears m there r a x g) h = absurd h
 marks s w u run some (arrives p there near f a r g) h = absurd h
 marks s w u run some (beside_sender x g) h = absurd h
@@ -188,8 +190,10 @@ module _ {s : Start} {w : World} (I : Inv s w) (m : marked_at w.sending 0 ≡ tr
   unfolding Resends on_send on_arrive step
   mark_next (sends z a x given) = inr (put_stays w _ (z ∷ w.sent) _ (message a) (with_sender_stays _ (send_marked z).holds))
   mark_next (resends a x g) = inl tt
-  mark_next (timers p a x given) = inr (with_sender_stays _ (timer_marked (psn p)).holds)
-  mark_next (hears n there h a x given) = inr (heard_stays n n.reply (I.told n there) h)
+  mark_next (timers p a x t) =
+      by_given (λ b y. ⊥ ⊎ Stays w (with_sender rules w y)) (inr (with_sender_stays _ (timer_marked (psn p)).holds)) t
+  mark_next (hears n there h a x t) =
+      by_given (λ b y. ⊥ ⊎ Stays w (with_sender rules w y)) (inr (heard_stays n n.reply (I.told n there) h)) t
   mark_next (arrives p there near f a r g) = inr (reply_stays w r p.number _ (message a) m)
   mark_next (beside_sender x g) = absurd g
   mark_next (beside_receiver r g) = absurd g

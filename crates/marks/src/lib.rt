@@ -30,7 +30,7 @@ pub fn mark_psn(retired: &[u64], marked: &mut [u64], place: Psn, n: u32, psn: Ps
 }
 
 // What the search finds.
-#[derive(Drop)]
+#[derive(Clone, Copy)]
 pub enum Found {
     Marked(Psn),
     Nothing,

@@ -8,46 +8,46 @@ use Rattle.marks.proofs.mark_psn.Statement.{statement}
 use Rattle.marks.proofs.mark_psn.Tie as tie
 
 -- the index of the packet number
-abbrev start : tie.After-distance → tie.Start
+abbrev start : tie.After-distance-i → tie.Start
 start c = c.before.before.before.before
 
-index_is : (c : tie.After-distance) → c.distance.result ≡ distance (after (start c).args.place.0 1) (start c).args.psn.0
-index_is c = c.distance.ensures ∙ ap (λ (a : ℕ). distance a (start c).args.psn.0) c.before.after.ensures
+index_is : (c : tie.After-distance-i) → c.distance-i.result ≡ distance (after (start c).args.place.0 1) (start c).args.psn.0
+index_is c = c.distance-i.ensures ∙ ap (λ (a : ℕ). distance a (start c).args.psn.0) c.before.after.ensures
 
 after-requires : tie.Need-after-requires
 after-requires c κs = search rules
 
-distance-requires : tie.Need-distance-requires
+distance-requires : tie.Need-distance-i-requires
 distance-requires c κs = search rules
 
-returns : tie.Need-returns
+returns : tie.Need-returns-then-n-i
 returns c =
     let entry = c.before.before.before.before.before in
     let a = entry.args in
-    let i = c.before.distance.result in
-    marks_past a.retired.now a.marked.now a.place.0 a.n a.psn.0 i (index_is c.before) c.if1.true
+    let i = c.before.distance-i.result in
+    marks_past a.retired.now a.marked.now a.place.0 a.n a.psn.0 i (index_is c.before) c.if-n-i.true
 
-add-mark : tie.Need-overflow-add-mark
+add-mark : tie.Need-overflow_add-place
 add-mark c = search rules
 
-add-mark-2 : tie.Need-overflow-add-mark-2
+add-mark-2 : tie.Need-overflow_add-place-2
 add-mark-2 c = search rules
 
 mark-requires : tie.Need-mark-requires
 mark-requires c κs = search rules
 
-same_length : tie.Need-same-length
+same_length : tie.Need-shape_of-marked
 same_length c = search rules
 
-returns-2 : tie.Need-returns-2
+returns-2 : tie.Need-returns
 returns-2 c =
     let entry = c.before.before.before.before.before.before.before.before.before.before in
     let a = entry.args in
     let out = c.before.before.mark in
-    let i = c.before.before.before.before.before.before.distance.result in
+    let i = c.before.before.before.before.before.before.distance-i.result in
     let i_is = index_is c.before.before.before.before.before.before in
-    marks_among a.retired.now a.marked.now a.place.0 a.n a.psn.0 i i_is c.before.before.before.before.before.if1.false
-    out.new.1.0 out.result out.ensures
+    marks_among a.retired.now a.marked.now a.place.0 a.n a.psn.0 i i_is c.before.before.before.before.before.if-n-i.false
+    out.new.marked out.result out.ensures
 
 pub mark_psn_spec : {M : Type 1} → statement M
 mark_psn_spec =
