@@ -16,15 +16,15 @@ abbrev lent_at : tie.Start → Lent
 lent_at e = lent e.args.self e.args.sizes.now e.args.retired.now e.args.marked.now
 
 -- what is known once the rows are retired
-abbrev begin : tie.After-acknowledge → tie.Start
+abbrev begin : tie.After-acknowledge-out → tie.Start
 begin c = c.before.before.before.before.before.before.before
 
-rows : (c : tie.After-acknowledge)
+rows : (c : tie.After-acknowledge-out)
     → RowsRetired (lent_at (begin c)) (begin c).args.cack.0 (begin c).args.block
-    c.acknowledge.new.0 c.acknowledge.new.1.0 c.acknowledge.result
-rows c = record { started = (begin c).requires.0; none_unsent = (begin c).requires.1; rows = c.acknowledge.ensures }
+    c.acknowledge-out.new.retired c.acknowledge-out.new.marked c.acknowledge-out.result
+rows c = record { started = (begin c).requires.0; none_unsent = (begin c).requires.1; rows = c.acknowledge-out.ensures }
 
-acknowledge-requires : tie.Need-acknowledge-requires
+acknowledge-requires : tie.Need-acknowledge-out-requires
 acknowledge-requires c κs =
     let h = c.before.before.before.before.before.before.requires.0 in
     record {
@@ -38,26 +38,26 @@ acknowledge-requires c κs =
       first_open = h.first_open;
     }
 
-sub_held : tie.Need-overflow-sub-held
+sub_held : tie.Need-overflow_sub-held
 sub_held c = bytes_le _ _ _ _ _ _ (rows c.before.before.before.before.before.before)
 
-sub-outstanding : tie.Need-overflow-sub-outstanding
-sub-outstanding c = c.before.before.before.before.before.before.before.acknowledge.ensures.moved.within
+sub-outstanding : tie.Need-overflow_sub-outstanding
+sub-outstanding c = c.before.before.before.before.before.before.before.acknowledge-out.ensures.moved.within
 
-after-requires : tie.Need-after-requires
+after-requires : tie.Need-after-now-requires
 after-requires c κs = search rules
 
-same_length : tie.Need-same-length
+same_length : tie.Need-shape_of-retired
 same_length c = search rules
 
-same-length-2 : tie.Need-same-length-2
+same-length-2 : tie.Need-shape_of-marked
 same-length-2 c = search rules
 
 returns : tie.Need-returns
 unfolding acknowledged
 returns c =
     let r = rows c.before.before.before.before.before.before.before.before in
-    let now = c.after in
+    let now = c.after-now in
     record {
       meets = does _ _ refl (ap answer.Retired (acknowledged_reports _ _ _ _ _ _ r now.result now.ensures))
           (acknowledged_means _ _ _ _ _ _ r now.result now.ensures) (inr (acknowledged_started _ _ _ _ _ _ r now.result now.ensures));

@@ -29,122 +29,122 @@ abbrev tests : tie.Start → Refusals
 tests e = nack_refusals (meaning (lent_at e)) e.args.psn e.args.reason
 
 -- the entry, from where each test was passed, and from where the last of them is asked
-abbrev from-unused : tie.Else1 → tie.Start
+abbrev from-unused : tie.Else-self-eq0 → tie.Start
 from-unused c = c.before.before.before.before.before
 
-abbrev from-psn : tie.Else2 → tie.Start
+abbrev from-psn : tie.Else-not-psn_ok → tie.Start
 from-psn c = from-unused c.before.before
 
-abbrev from-reason : tie.Else3 → tie.Start
+abbrev from-reason : tie.Else-not-reason_ok → tie.Start
 from-reason c = from-psn c.before.before
 
 abbrev asked : tie.After-unsent → tie.Start
-asked c = from-reason c.before
+asked c = from-reason c.before.before
 
-abbrev from-unsent : tie.Else4 → tie.Start
-from-unsent c = from-reason c.before.before
+abbrev from-unsent : tie.Else-unsent → tie.Start
+from-unsent c = from-reason c.before.before.before
 
 -- the tests that were passed
-past_unused : (c : tie.Else1) → Past (tests (from-unused c)) 1
+past_unused : (c : tie.Else-self-eq0) → Past (tests (from-unused c)) 1
 unfolding nack_refusals Past test
-past_unused c = past (tests (from-unused c)) 0 tt (is_used (lent_at (from-unused c)) c.if1.false)
+past_unused c = past (tests (from-unused c)) 0 tt (is_used (lent_at (from-unused c)) c.if-self-eq0.false)
 
-past_psn : (c : tie.Else2) → Past (tests (from-psn c)) 2
+past_psn : (c : tie.Else-not-psn_ok) → Past (tests (from-psn c)) 2
 unfolding nack_refusals test
-past_psn c = past (tests (from-psn c)) 1 (past_unused c.before.before) (sym (ap not c.before.psn_ok.ensures) ∙ c.if2.false)
+past_psn c = past (tests (from-psn c)) 1 (past_unused c.before.before) (ap not (sym c.before.psn_ok.ensures ∙ c.if-not-psn_ok.false))
 
-past_reason : (c : tie.Else3) → Past (tests (from-reason c)) 3
+past_reason : (c : tie.Else-not-reason_ok) → Past (tests (from-reason c)) 3
 unfolding nack_refusals test
-past_reason c = past (tests (from-reason c)) 2 (past_psn c.before.before) (sym (ap not c.before.reason_ok.ensures) ∙ c.if3.false)
+past_reason c = past (tests (from-reason c)) 2 (past_psn c.before.before) (ap not (sym c.before.reason_ok.ensures ∙ c.if-not-reason_ok.false))
 
 unsent_is : (c : tie.After-unsent) → c.unsent.result ≡ unsent (meaning (lent_at (asked c))) (asked c).args.psn.0
 unsent_is c = c.unsent.ensures (meaning (lent_at (asked c))) (stands (lent_at (asked c)))
 
-past_unsent : (c : tie.Else4) → Past (tests (from-unsent c)) 4
+past_unsent : (c : tie.Else-unsent) → Past (tests (from-unsent c)) 4
 unfolding nack_refusals test
-past_unsent c = past (tests (from-unsent c)) 3 (past_reason c.before.before) (sym (unsent_is c.before) ∙ c.if4.false)
+past_unsent c = past (tests (from-unsent c)) 3 (past_reason c.before.before.before) (sym (unsent_is c.before) ∙ c.if-unsent.false)
 
 -- past the first of them the sender was started
-started : (c : tie.Else4) → Started (lent_at (from-unsent c))
-started c = in_use (lent_at (from-unsent c)) (from-unsent c).requires c.before.before.before.before.before.before.if1.false
+started : (c : tie.Else-unsent) → Started (lent_at (from-unsent c))
+started c = in_use (lent_at (from-unsent c)) (from-unsent c).requires c.if-self-eq0.false
 
 refused-requires : tie.Need-refused-requires
 refused-requires c κs = search rules
 
-returns : tie.Need-returns
+returns : tie.Need-returns-then-self-eq0
 unfolding step nack nack_refusals Past test number
 returns c =
     let e = c.before.before.before.before.before.before in
-    let idle = is_unused (lent_at e) c.before.if1.true in
+    let idle = is_unused (lent_at e) c.before.if-self-eq0.true in
     refused_by (lent_at e) e.requires (event e) (tests e) _ refl 0 tt idle c.refused.result c.refused.ensures
 
-psn-ok-requires : tie.Need-psn-ok-requires
+psn-ok-requires : tie.Need-psn_ok-requires
 psn-ok-requires c κs = search rules
 
-refused-requires-2 : tie.Need-refused-requires-2
+refused-requires-2 : tie.Need-refused-requires-then-not-psn_ok
 refused-requires-2 c κs = search rules
 
-returns-2 : tie.Need-returns-2
+returns-2 : tie.Need-returns-then-not-psn_ok
 unfolding step nack nack_refusals test number
 returns-2 c =
     let e = c.before.before.before.before.before.before.before.before in
-    let high = sym (ap not c.before.before.psn_ok.ensures) ∙ c.before.if2.true in
-    refused_by (lent_at e) e.requires (event e) (tests e) _ refl 1 (past_unused c.before.before.before) high c.refused2.result c.refused2.ensures
+    let high = ap not (sym c.before.before.psn_ok.ensures ∙ c.before.if-not-psn_ok.true) in
+    refused_by (lent_at e) e.requires (event e) (tests e) _ refl 1 (past_unused c.before.before.before) high c.refused-then-not-psn_ok.result c.refused-then-not-psn_ok.ensures
 
-reason-ok-requires : tie.Need-reason-ok-requires
+reason-ok-requires : tie.Need-reason_ok-requires
 reason-ok-requires c κs = search rules
 
-refused-requires-3 : tie.Need-refused-requires-3
+refused-requires-3 : tie.Need-refused-requires-then-not-reason_ok
 refused-requires-3 c κs = search rules
 
-returns-3 : tie.Need-returns-3
+returns-3 : tie.Need-returns-then-not-reason_ok
 unfolding step nack nack_refusals test number
 returns-3 c =
     let e = c.before.before.before.before.before.before.before.before.before.before in
-    let unknown = sym (ap not c.before.before.reason_ok.ensures) ∙ c.before.if3.true in
-    refused_by (lent_at e) e.requires (event e) (tests e) _ refl 2 (past_psn c.before.before.before) unknown c.refused3.result c.refused3.ensures
+    let unknown = ap not (sym c.before.before.reason_ok.ensures ∙ c.before.if-not-reason_ok.true) in
+    refused_by (lent_at e) e.requires (event e) (tests e) _ refl 2 (past_psn c.before.before.before) unknown c.refused-then-not-reason_ok.result c.refused-then-not-reason_ok.ensures
 
 unsent-requires : tie.Need-unsent-requires
 unsent-requires c κs = search rules
 
-refused-requires-4 : tie.Need-refused-requires-4
+refused-requires-4 : tie.Need-refused-requires-then-unsent
 refused-requires-4 c κs = search rules
 
-returns-4 : tie.Need-returns-4
+returns-4 : tie.Need-returns-then-unsent
 unfolding step nack nack_refusals test number
 returns-4 c =
-    let e = c.before.before.before.before.before.before.before.before.before.before.before.before in
-    let ahead = sym (unsent_is c.before.before) ∙ c.before.if4.true in
-    refused_by (lent_at e) e.requires (event e) (tests e) _ refl 3 (past_reason c.before.before.before) ahead c.refused4.result c.refused4.ensures
+    let e = asked c.before.before in
+    let ahead = sym (unsent_is c.before.before) ∙ c.before.if-unsent.true in
+    refused_by (lent_at e) e.requires (event e) (tests e) _ refl 3 (past_reason c.before.before.before.before) ahead c.refused-then-unsent.result c.refused-then-unsent.ensures
 
-returns-5 : tie.Need-returns-5
+returns-5 : tie.Need-returns-then-reason-gt4
 unfolding step nack nack_refusals sizes_after
 returns-5 c =
     let e = from-unsent c.before in
-    let none = nacked_none (meaning (lent_at e)) e.args.psn.0 e.args.reason c.if5.true in
+    let none = nacked_none (meaning (lent_at e)) e.args.psn.0 e.args.reason c.if-reason-gt4.true in
     record {
-      meets = passes (tests e) _ refl (past_unsent c.before) (does _ _ none refl refl e.pre);
+      meets = passes (tests e) _ refl (past_unsent c.before) (does _ _ none refl refl e.requires);
       sizes_are = refl;
       retired_long = refl;
       marked_long = refl;
     }
 
-mark-psn-requires : tie.Need-mark-psn-requires
-mark-psn-requires c κs = let h = started c.before.before in record { place_low = h.place_low; few = omega (arith, few _ h) }
+mark-psn-requires : tie.Need-mark_psn-newly-requires
+mark-psn-requires c κs = let h = started c.before.before.before in record { place_low = h.place_low; few = omega (arith, few _ h) }
 
-same_length : tie.Need-same-length
+same_length : tie.Need-shape_of-marked
 same_length c = search rules
 
-returns-6 : tie.Need-returns-6
+returns-6 : tie.Need-returns
 unfolding step nack nack_refusals sizes_after
 returns-6 c =
-    let fourth = c.before.before.before.before.before in
+    let fourth = c.before.before.before.before.before.before in
     let e = from-unsent fourth in
     let x = lent_at e in
     let p = e.args.psn.0 in
-    let out = c.before.before.mark-psn in
-    let marks = mark_meets x (started fourth) p out.new.1.0 out.result out.ensures answer.Marked in
-    let nacks = nacked_mark x p e.args.reason c.before.before.before.before.if5.false _ _ marks in
+    let out = c.before.before.mark_psn-newly in
+    let marks = mark_meets x (started fourth) p out.new.marked out.result out.ensures answer.Marked in
+    let nacks = nacked_mark x p e.args.reason c.if-reason-gt4.false _ _ marks in
     record {
       meets = passes (tests e) _ refl (past_unsent fourth) nacks;
       sizes_are = refl;

@@ -33,87 +33,87 @@ abbrev tests : tie.Start → Refusals
 tests e = resend_refusals (meaning (lent_at e))
 
 -- the entry, from where the first test was passed, and from where the search is done
-abbrev from-unused : tie.Else1 → tie.Start
+abbrev from-unused : tie.Else-self-eq0 → tie.Start
 from-unused c = c.before.before.before.before.before
 
-abbrev searched : tie.After-slice-known2 → tie.Start
-searched c = from-unused c.before.before.before.before
+abbrev searched : tie.After-slice_known-2-1 → tie.Start
+searched c = from-unused c.before.before.before.before.before
 
-past_unused : (c : tie.Else1) → Past (tests (from-unused c)) 1
+past_unused : (c : tie.Else-self-eq0) → Past (tests (from-unused c)) 1
 unfolding resend_refusals Past test
-past_unused c = past (tests (from-unused c)) 0 tt (is_used (lent_at (from-unused c)) c.if1.false)
+past_unused c = past (tests (from-unused c)) 0 tt (is_used (lent_at (from-unused c)) c.if-self-eq0.false)
 
 -- past the first test the sender was started
-started : (c : tie.Else1) → Started (lent_at (from-unused c))
-started c = in_use (lent_at (from-unused c)) (from-unused c).requires c.if1.false
+started : (c : tie.Else-self-eq0) → Started (lent_at (from-unused c))
+started c = in_use (lent_at (from-unused c)) (from-unused c).requires c.if-self-eq0.false
 
 -- what the search found, and the row that it left
-abbrev row : tie.After-slice-known2 → List ℕ
-row c = c.before.before.take.new.0
+abbrev row : tie.After-slice_known-2-1 → List ℕ
+row c = c.before.before.take.new.marked
 
-took : (c : tie.After-slice-known2) (r : Found) → c.before.before.take.result ≡ r
+took : (c : tie.After-slice_known-2-1) (r : Found) → c.before.before.take.result ≡ r
     → let x = lent_at (searched c) in Takes x.marked x.head.place.0 x.head.outstanding (row c) r
 took c r e = let x = lent_at (searched c) in subst (Takes x.marked x.head.place.0 x.head.outstanding (row c)) e c.before.before.take.ensures
 
 -- nothing found, it is the row that was lent
-row_is : (c : tie.After-slice-known2) → c.before.before.take.result ≡ Nothing → row c ≡ (searched c).args.marked.now
+row_is : (c : tie.After-slice_known-2-1) → c.before.before.take.result ≡ Nothing → row c ≡ (searched c).args.marked.now
 unfolding left_after
 row_is c e =
     let ws = (searched c).args.marked.now in
-    let small : Words ws = λ j l. (c.before.before.before.before.before.before.slice-known.given j).fits in
-    becomes_settled ws (row c) ws (at ws) (λ j l. (c.slice-known2.given j).fits) small (took c Nothing e).marked_are
+    let small : Words ws = λ j l. (c.before.before.before.before.before.before.slice_known-1.given j).fits in
+    becomes_settled ws (row c) ws (at ws) (λ j l. (c.slice_known-2-1.given j).fits) small (took c Nothing e).marked_are
     (record { long = refl; bits_are = λ p. refl })
 
 refused-requires : tie.Need-refused-requires
 refused-requires c κs = search rules
 
-returns : tie.Need-returns
+returns : tie.Need-returns-then-self-eq0
 unfolding step resend resend_refusals Past test number
 returns c =
     let e = c.before.before.before.before.before.before in
-    let idle = is_unused (lent_at e) c.before.if1.true in
+    let idle = is_unused (lent_at e) c.before.if-self-eq0.true in
     refused_by (lent_at e) e.requires sending.Resend (tests e) _ refl 0 tt idle c.refused.result c.refused.ensures
 
 take-requires : tie.Need-take-requires
-take-requires c κs = let h = started c.before in record { place_low = h.place_low; few = omega (arith, few _ h) }
+take-requires c κs = let h = started c.before.before in record { place_low = h.place_low; few = omega (arith, few _ h) }
 
-enum-known-psn : tie.Need-enum-known-psn
+enum-known-psn : tie.Need-enum_known-psn
 enum-known-psn c = search rules
 
-enum_told : tie.Need-enum-told
+enum_told : tie.Need-enum_told-1
 enum_told c = search rules
 
-refused-requires-2 : tie.Need-refused-requires-2
+refused-requires-2 : tie.Need-refused-requires-in_default
 refused-requires-2 c κs = search rules
 
-same_length : tie.Need-same-length
+same_length : tie.Need-shape_of-marked-in_default
 same_length c = search rules
 
-returns-2 : tie.Need-returns-2
+returns-2 : tie.Need-returns-in_default
 unfolding step resend resend_refusals test number
 returns-2 c =
-    let found = c.before.before.before in
-    let nothing = c.before.enum_told.given.1 in
+    let found = c.before.before in
+    let nothing = c.in_default.is in
     let e = searched found in
     let x = lent_at e in
     let none = none_marked x (took found Nothing nothing).finds in
-    let first = c.before.before.before.before.before.before.before in
-    let said = c.refused2 in
+    let first = found.before.before.before.before.before in
+    let said = c.refused-in_default in
     subst (Steps x sending.Resend said.result x.sizes x.retired) (sym (row_is found nothing))
-    (refused_by x e.pre sending.Resend (tests e) _ refl 1 (past_unused first) none said.result said.ensures)
+    (refused_by x e.requires sending.Resend (tests e) _ refl 1 (past_unused first) none said.result said.ensures)
 
-same-length-2 : tie.Need-same-length-2
+same-length-2 : tie.Need-shape_of-marked
 same-length-2 c = search rules
 
-returns-3 : tie.Need-returns-3
+returns-3 : tie.Need-returns
 unfolding step resend resend_refusals resent sizes_after left_after test
 returns-3 c =
-    let found = c.before.before.before in
-    let p = c.before.psn.given.0.0 in
-    let out = took found (Marked p) c.before.psn.given.1 in
+    let found = c.before in
+    let p = c.in-Marked.psn in
+    let out = took found (Marked p) c.in-Marked.is in
     let e = searched found in
     let x = lent_at e in
-    let first = c.before.before.before.before.before.before.before in
+    let first = found.before.before.before.before.before in
     let h = started first in
     let ws = row found in
     record {
