@@ -1,7 +1,6 @@
 -- A kind's fields in the code's arrays take as many bytes as the fields, are read as the fields with zeros behind them, and are written as
 -- the fields: zeros change nothing. Assumes nothing.
 use mathlib.Core.Path.{◌≡◌, sym, ap, ap₂, ◌∙◌}
-use mathlib.Core.Bool.{true}
 use mathlib.Core.List.{List, [], ◌∷◌, ◌++◌}
 use Prim.Native.Nat.{ℕ, zero, suc, ◌-◌, ◌/◌, ◌≤◌}
 use native.Mathlib.Omega.{arith}
@@ -9,7 +8,7 @@ use lib.ListN.{length, replicate}
 use Rattle.fields.specs.Fields.{size, encode, decode, Fits, Laid}
 use Rattle.fields.proofs.RoundTrip.{length_decode, decode_fits}
 use Rattle.fields.proofs.Padding.{encode_padded, decode_padded}
-use Rattle.rules.specs.Kinds.{kind_of, fields_of, widths, kind_ok}
+use Rattle.rules.specs.Kinds.{kind_of, fields_of, widths}
 use Rattle.rules.specs.declared.Event.{Event}
 use Rattle.kinds.specs.Padded.{most, padded, FitsAll}
 use Rattle.kinds.proofs.Padded.{length_padded, padded_is, padded_at}

@@ -2,7 +2,7 @@
 use borrow.Author.Rules.{rules}
 use borrow.Rule.Slice.PartMut.{put_mid}
 use mathlib.Core.Path.{◌≡◌, ap, ap₂, ◌∙◌}
-use mathlib.Core.List.{List, [], ◌∷◌, ◌++◌}
+use mathlib.Core.List.{List, ◌∷◌, ◌++◌}
 use Prim.Native.Nat.{ℕ, ◌-◌, ◌≤◌}
 use native.Mathlib.Omega.{arith}
 use lib.ListN.{length, take, drop, set, length-set, length-drop, length-append}
@@ -10,7 +10,7 @@ use lib.Seq.{drop-drop}
 use Rattle.fields.specs.Fields.{size, Laid}
 use Rattle.fields.specs.Fields as fields
 use Rattle.rules.specs.Numbers.{record_head}
-use Rattle.rules.specs.Kinds.{kind_of, fields_of, widths as widths_of, kind_ok}
+use Rattle.rules.specs.Kinds.{kind_of, fields_of, widths as widths_of}
 use Rattle.rules.specs.Log.{whole, encode}
 use Rattle.rules.specs.declared.Event.{Event}
 use Rattle.rules.proofs.Records.{length_encode}
@@ -71,55 +71,55 @@ module _ (b : List ℕ) (slot : ℕ) (e : Event) (k : ℕ) (ws v : List ℕ) (h 
         let r = drop (whole (kind_of e)) b in
         ap length filled ∙ omega (arith, h.room, length-append (encode slot e) r, length_encode slot e, length-drop (whole (kind_of e)) b)
 
-has : (c : tie.After-values) → let a = c.before.before.before.before.args in
-    Has a.buffer.now a.event c.before.before.kind.result c.before.widths.result c.values.result
+has : (c : tie.After-values-v) → let a = c.before.before.before.before.args in
+    Has a.buffer.now a.event c.before.before.kind-kind.result c.before.widths-widths.result c.values-v.result
 has c = record {
-  kind_is = c.before.before.kind.ensures;
-  widths_are = c.before.widths.ensures;
-  values_are = c.values.ensures;
+  kind_is = c.before.before.kind-kind.ensures;
+  widths_are = c.before.widths-widths.ensures;
+  values_are = c.values-v.ensures;
   room = c.before.before.before.before.requires;
 }
 
-kind-requires : tie.Need-kind-requires
+kind-requires : tie.Need-kind-kind-requires
 kind-requires c κs = search rules
 
-widths-requires : tie.Need-widths-requires
+widths-requires : tie.Need-widths-widths-requires
 widths-requires c κs = search rules
 
-values-requires : tie.Need-values-requires
+values-requires : tie.Need-values-v-requires
 values-requires c κs = search rules
 
-slice-write-buffer : tie.Need-slice-write-buffer
+slice-write-buffer : tie.Need-bounds-buffer-0
 slice-write-buffer c = search rules
 
-slice-write-buffer-2 : tie.Need-slice-write-buffer-2
+slice-write-buffer-2 : tie.Need-bounds-buffer-1
 slice-write-buffer-2 c = simp length-set (omega (arith, c.before.before.before.before.requires))
 
-slice-write-buffer-3 : tie.Need-slice-write-buffer-3
+slice-write-buffer-3 : tie.Need-bounds-buffer-2
 slice-write-buffer-3 c = simp length-set (omega (arith, c.before.before.before.before.requires))
 
-slice-write-buffer-4 : tie.Need-slice-write-buffer-4
+slice-write-buffer-4 : tie.Need-bounds-buffer-3
 slice-write-buffer-4 c = simp length-set (omega (arith, c.before.before.before.before.requires))
 
-sub-write : tie.Need-overflow-sub-write
+sub-write : tie.Need-slice_bounds-write-count
 sub-write c = simp length-set (omega (arith, c.before.before.before.before.requires))
 
-part-write-start : tie.Need-slice-bounds-write-start
+part-write-start : tie.Need-slice_bounds-write-start
 part-write-start c = simp length-set (omega (arith, c.before.before.before.before.requires))
 
-part-write-end : tie.Need-slice-bounds-write-end
+part-write-end : tie.Need-slice_bounds-write-end
 part-write-end c = search rules
 
-slice-aggregate-write : tie.Need-slice-aggregate-write
+slice-aggregate-write : tie.Need-slice_bounds-write-end-2
 slice-aggregate-write c = search rules
 
-slice-aggregate-write-2 : tie.Need-slice-aggregate-write-2
+slice-aggregate-write-2 : tie.Need-slice_bounds-write-end-3
 slice-aggregate-write-2 c = search rules
 
 write-requires : tie.Need-write-requires
 write-requires c κs = fields_laid _ c.before.before.before.before.before.before.before.args.slot _ _ _ _ (has c.before.before.before)
 
-same_length : tie.Need-same-length
+same_length : tie.Need-shape_of-buffer
 same_length c =
     let v = c.before.before.before.before.before.before in
     filled_length _ v.before.before.before.before.args.slot _ _ _ _ (has v) _ c.before.before.write.ensures

@@ -13,18 +13,18 @@ use Rattle.event_log.proofs.whole.Statement.{statement}
 use Rattle.event_log.proofs.whole.Tie as tie
 
 size_is : (c : tie.After-size) → c.size.result ≡ size (widths_of c.before.before.before.args.kind)
-size_is c = c.size.ensures ∙ ap size c.before.before.widths.ensures ∙ size_padded c.before.before.before.args.kind
+size_is c = c.size.ensures ∙ ap size c.before.before.widths-widths.ensures ∙ size_padded c.before.before.before.args.kind
 
-widths-requires : tie.Need-widths-requires
+widths-requires : tie.Need-widths-widths-requires
 widths-requires c κs = search rules
 
-slice-aggregate-size : tie.Need-slice-aggregate-size
+slice-aggregate-size : tie.Need-slice_bounds-size-end
 slice-aggregate-size c = search rules
 
 size-requires : tie.Need-size-requires
-size-requires c κs = rw c.before.widths.ensures (padded_laid c.before.before.args.kind)
+size-requires c κs = rw c.before.widths-widths.ensures (padded_laid c.before.before.args.kind)
 
-add-result : tie.Need-overflow-add-result
+add-result : tie.Need-overflow_add-result
 add-result c = omega (arith, size_is c, (laid c.before.before.before.args.kind).short)
 
 returns : tie.Need-returns

@@ -2,11 +2,11 @@
 use mathlib.Core.Path.{◌≡◌, refl}
 use mathlib.Core.List.{[]}
 use Prim.Native.Nat.{ℕ, zero, suc}
+use native.Mathlib.Omega.{arith}
 use Rattle.lists.specs.Index.{table}
 use Rattle.rules.specs.Kinds.{layouts, layout as layout_of}
 use Rattle.kinds.specs.Padded.{padded_cells}
-use Rattle.kinds.proofs.layout.Statement.{statement}
-use Rattle.kinds.proofs.layout.Tie as tie
+use Rattle.kinds.proofs.layout.Goals as goal
 
 -- any other kind has no fields
 none : (k : ℕ) → (k ≡ 1 → ⊥) → (k ≡ 3 → ⊥) → (k ≡ 4 → ⊥) → (k ≡ 5 → ⊥) → (k ≡ 6 → ⊥) → (k ≡ 7 → ⊥) → layout_of k ≡ []
@@ -22,36 +22,30 @@ none (suc (suc (suc (suc (suc (suc (suc zero))))))) a b c d e f = absurd (f refl
 none (suc (suc (suc (suc (suc (suc (suc (suc zero)))))))) a b c d e f = refl
 none (suc (suc (suc (suc (suc (suc (suc (suc (suc k))))))))) a b c d e f = refl
 
-returns : tie.Need-returns
+pub returns-in-1 : goal.returns-in-1
 unfolding padded_cells table layout_of layouts
-returns c = rw c.match.keys1
+returns-in-1 c = rw c.in-1.is
 
-returns-2 : tie.Need-returns-2
+pub returns-in-3 : goal.returns-in-3
 unfolding padded_cells table layout_of layouts
-returns-2 c = rw c.match.keys2
+returns-in-3 c = rw c.in-3.is
 
-returns-3 : tie.Need-returns-3
+pub returns-in-4 : goal.returns-in-4
 unfolding padded_cells table layout_of layouts
-returns-3 c = rw c.match.keys3
+returns-in-4 c = rw c.in-4.is
 
-returns-4 : tie.Need-returns-4
+pub returns-in-5 : goal.returns-in-5
 unfolding padded_cells table layout_of layouts
-returns-4 c = rw c.match.keys4
+returns-in-5 c = rw c.in-5.is
 
-returns-5 : tie.Need-returns-5
+pub returns-in-6 : goal.returns-in-6
 unfolding padded_cells table layout_of layouts
-returns-5 c = rw c.match.keys5
+returns-in-6 c = rw c.in-6.is
 
-returns-6 : tie.Need-returns-6
+pub returns-in-7 : goal.returns-in-7
 unfolding padded_cells table layout_of layouts
-returns-6 c = rw c.match.keys6
+returns-in-7 c = rw c.in-7.is
 
-returns-7 : tie.Need-returns-7
+pub returns-in_default : goal.returns-in_default
 unfolding padded_cells table
-returns-7 c =
-    let m = c.match.rest in
-    rw (none c.before.args.kind m.0.0.0.0.0.1 m.0.0.0.0.1 m.0.0.0.1 m.0.0.1 m.0.1 m.1)
-
-pub layout_spec : {M : Type 1} → statement M
-layout_spec =
-    tie.close (tie.spec returns returns-2 returns-3 returns-4 returns-5 returns-6 returns-7)
+returns-in_default c = rw (none c.args.kind (λ h. omega arith) (λ h. omega arith) (λ h. omega arith) (λ h. omega arith) (λ h. omega arith) (λ h. omega arith))
