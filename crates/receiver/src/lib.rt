@@ -11,7 +11,7 @@ use receiving::Head;
 use rules::{Answer, Arrival, Opening, Receiving, WORDS};
 
 // A receiver by value.
-#[derive(Drop)]
+#[derive(Clone, Copy)]
 pub struct Receiver {
     pub room: u32,
     pub expected: Psn,
@@ -20,7 +20,7 @@ pub struct Receiver {
 }
 
 // The answer to an event, and the record after it.
-#[derive(Drop)]
+#[derive(Clone, Copy)]
 pub struct Stepped {
     pub answer: Answer,
     pub record: Receiver,

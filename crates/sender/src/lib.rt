@@ -14,7 +14,7 @@ use sending::Head;
 pub const SIZES: usize = LARGEST_ROOM as usize;
 
 // A sender by value.
-#[derive(Drop)]
+#[derive(Clone, Copy)]
 pub struct Sender {
     pub room: u32,
     pub place: Psn,
@@ -26,7 +26,7 @@ pub struct Sender {
 }
 
 // The answer to an event, and the record after it.
-#[derive(Drop)]
+#[derive(Clone, Copy)]
 pub struct Stepped {
     pub answer: Answer,
     pub record: Sender,

@@ -2,7 +2,6 @@
 use mathlib.Core.Path.{◌≡◌, refl, sym, ap, ◌∙◌}
 use mathlib.Core.Bool.{true, not}
 use mathlib.Core.Logic.{inl, inr}
-use borrow.Author.Tests.{not-false}
 use Rattle.promise.specs.Outcome.{Refusals}
 use Rattle.promise.proofs.Refusing.{Past, test, number, past}
 use Rattle.promise.proofs.Meeting.{returns_at, passes, does}
@@ -18,21 +17,21 @@ use Rattle.sender.proofs.Sender.start.Tie as tie
 abbrev tests : tie.Start → Refusals
 tests s = start_refusals s.args.opening
 
-good_room : (c : tie.Else1) → room_ok c.before.before.before.before.args.opening.room ≡ true
-good_room c = sym c.before.room_ok.ensures ∙ not-false c.before.room_ok.result c.if1.false
+good_room : (c : tie.Else-not-room_ok) → room_ok c.before.before.before.before.args.opening.room ≡ true
+good_room c = sym c.before.room_ok.ensures ∙ c.if-not-room_ok.false
 
-past_room : (c : tie.Else1) → Past (tests c.before.before.before.before) 1
+past_room : (c : tie.Else-not-room_ok) → Past (tests c.before.before.before.before) 1
 unfolding start_refusals Past test
 past_room c = past (tests c.before.before.before.before) 0 tt (ap not (good_room c))
 
-past_psn : (c : tie.Else2) → Past (tests c.before.before.before.before.before.before) 2
+past_psn : (c : tie.Else-not-psn_ok) → Past (tests c.before.before.before.before.before.before) 2
 unfolding start_refusals test
-past_psn c = past _ 1 (past_room c.before.before) (sym (ap not c.before.psn_ok.ensures) ∙ c.if2.false)
+past_psn c = past _ 1 (past_room c.before.before) (ap not (sym c.before.psn_ok.ensures ∙ c.if-not-psn_ok.false))
 
-cast-room : tie.Need-overflow-cast-room
+cast-room : tie.Need-overflow_cast-room
 cast-room c = search rules
 
-room-ok-requires : tie.Need-room-ok-requires
+room-ok-requires : tie.Need-room_ok-requires
 room-ok-requires c κs = search rules
 
 empty-requires : tie.Need-empty-requires
@@ -41,43 +40,43 @@ empty-requires c κs = search rules
 refused-requires : tie.Need-refused-requires
 refused-requires c κs = search rules
 
-returns : tie.Need-returns
+returns : tie.Need-returns-then-not-room_ok
 unfolding start start_refusals Past test number
 returns c =
     let entry = c.before.before.before.before.before.before in
-    let bad = sym (ap not c.before.before.before.room_ok.ensures) ∙ c.before.before.if1.true in
+    let bad = ap not (sym c.before.before.before.room_ok.ensures ∙ c.before.before.if-not-room_ok.true) in
     let said = c.refused.ensures in
     returns_at (tests entry) _ refl 0 tt bad (on_refusal said.0) (said.1 ∙ c.before.empty.ensures) (inl refl)
 
-psn-ok-requires : tie.Need-psn-ok-requires
+psn-ok-requires : tie.Need-psn_ok-requires
 psn-ok-requires c κs = search rules
 
-empty-requires-2 : tie.Need-empty-requires-2
+empty-requires-2 : tie.Need-empty-requires-then-not-psn_ok
 empty-requires-2 c κs = search rules
 
-refused-requires-2 : tie.Need-refused-requires-2
+refused-requires-2 : tie.Need-refused-requires-then-not-psn_ok
 refused-requires-2 c κs = search rules
 
-returns-2 : tie.Need-returns-2
+returns-2 : tie.Need-returns-then-not-psn_ok
 unfolding start start_refusals test number
 returns-2 c =
-    let high = sym (ap not c.before.before.before.psn_ok.ensures) ∙ c.before.before.if2.true in
-    let said = c.refused2.ensures in
-    returns_at _ _ refl 1 (past_room c.before.before.before.before) high (on_refusal said.0) (said.1 ∙ c.before.empty2.ensures) (inl refl)
+    let high = ap not (sym c.before.before.before.psn_ok.ensures ∙ c.before.before.if-not-psn_ok.true) in
+    let said = c.refused-then-not-psn_ok.ensures in
+    returns_at _ _ refl 1 (past_room c.before.before.before.before) high (on_refusal said.0) (said.1 ∙ c.before.empty-then-not-psn_ok.ensures) (inl refl)
 
 low-requires : tie.Need-low-requires
 low-requires c κs = search rules
 
-array-write-retired : tie.Need-array-write-retired
+array-write-retired : tie.Need-bounds-retired-0
 array-write-retired c = search rules
 
-sub-after : tie.Need-overflow-sub-after
+sub-after : tie.Need-overflow_sub-after
 sub-after c = search rules
 
 after-requires : tie.Need-after-requires
 after-requires c κs = search rules
 
-returns-3 : tie.Need-returns-3
+returns-3 : tie.Need-returns
 unfolding start start_refusals
 returns-3 c =
     let entry = c.before.before.before.before.before.before.before.before.before in

@@ -3,14 +3,12 @@ use mathlib.Core.Path.{◌≡◌, sym, ap, ◌∙◌}
 use mathlib.Core.Logic.{inl, inr}
 use native.Mathlib.Omega.{arith}
 use lib.ListN.{length}
-use borrow.Author.Rules.{rules}
 use Rattle.rules.specs.Numbers.{words}
 use Rattle.sending.specs.Lent.{Lent}
 use Rattle.sending.specs.Lent as lent
 use Rattle.sender.specs.declared.Sender.{Sender}
 use Rattle.sender.specs.Record.{lent_of, Sound}
-use Rattle.sender.proofs.Sender.step.Statement.{statement}
-use Rattle.sender.proofs.Sender.step.Tie as tie
+use Rattle.sender.proofs.Sender.step.Goals as goal
 
 -- a head over its rows, as a record
 abbrev joined : Lent → Sender
@@ -33,29 +31,17 @@ joined_sound : (x : Lent) → length x.retired ≡ words → lent.Sound x → So
 joined_sound x n (inl e) = inl (ap joined (e ∙ ap lent.empty n))
 joined_sound x n (inr s) = inr s
 
-slice-aggregate-step : tie.Need-slice-aggregate-step
-slice-aggregate-step c = search rules
-
-slice-aggregate-step-2 : tie.Need-slice-aggregate-step-2
-slice-aggregate-step-2 c = search rules
-
-slice-aggregate-step-3 : tie.Need-slice-aggregate-step-3
-slice-aggregate-step-3 c = search rules
-
-step-requires : tie.Need-step-requires
-step-requires c κs =
+pub step-out-requires : goal.step-out-requires
+step-out-requires c =
     let entry = c.before.before.before.before.before.before.before in
     lent_sound entry.args.self entry.requires
 
-returns : tie.Need-returns
+pub returns : goal.returns
 returns c =
-    let m = c.before.before.before.before.before.step.ensures.meets in
+    let m = c.step-out.ensures.meets in
     record {
       answer_is = m.answer_is;
       record_is = m.record_is;
       untouched = λ n e. ap joined (m.untouched n e);
       sound = joined_sound _ (omega arith) m.sound;
     }
-
-pub step_spec : {M : Type 1} → statement M
-step_spec = tie.close (tie.spec slice-aggregate-step slice-aggregate-step-2 slice-aggregate-step-3 step-requires returns)
