@@ -1,19 +1,11 @@
 -- `kinds::event` meets its contract, arm by arm: each field fits as its width says, and the kind that is left is 8. Assumes nothing.
 use borrow.Author.Tests.{leb-true, ltb-true}
 use mathlib.Core.Path.{◌≡◌}
-use Prim.Native.Nat.{ℕ, suc, ◌≤◌, ◌<◌}
-use native.Mathlib.Nat.{le_antisymm}
 use native.Mathlib.Omega.{arith}
 use lib.Dec.{leb, ltb}
 use Rattle.lists.proofs.Joined.{and_true_each}
 use Rattle.rules.specs.Kinds.{layouts, layout, width, widths, event_of}
 use Rattle.kinds.proofs.event.Goals as goal
-
-more : {k : ℕ} (m : ℕ) → m ≤ k → (k ≡ m → ⊥) → suc m ≤ k
-more m h n = omega arith
-
-eight : (k : ℕ) → 1 ≤ k → k < 9 → (k ≡ 1 → ⊥) → (k ≡ 2 → ⊥) → (k ≡ 3 → ⊥) → (k ≡ 4 → ⊥) → (k ≡ 5 → ⊥) → (k ≡ 6 → ⊥) → (k ≡ 7 → ⊥) → k ≡ 8
-eight k l h a b c d e f g = le_antisymm (omega arith) (more 7 (more 6 (more 5 (more 4 (more 3 (more 2 (more 1 l a) b) c) d) e) f) g)
 
 pub overflow_cast-result : goal.overflow_cast-result
 unfolding widths layout layouts width
