@@ -1,10 +1,10 @@
 -- Two sides which are each started make a connection that is. Assumes nothing.
 use mathlib.Core.Path.{◌≡◌, refl, sym, ap, ◌∙◌}
-use mathlib.Core.Bool.{Bool, true, false}
+use mathlib.Core.Bool.{true, false}
 use mathlib.Core.Logic.{inr}
 use lib.ListN.{length, length-replicate}
 use borrow.Author.Tests.{not-false}
-use Rattle.promise.specs.Outcome.{Outcome, Done, unless, left}
+use Rattle.promise.specs.Outcome.{unless, left}
 use Rattle.promise.proofs.Refusing.{Past, none_left}
 use Rattle.promise.proofs.Meeting.{does}
 use Rattle.rules.specs.Numbers.{psn_ok, room_ok}

@@ -9,14 +9,14 @@ use receiver::Receiver;
 use rules::{Answer, Start, Use};
 use sender::Sender;
 
-#[derive(Drop)]
+#[derive(Clone, Copy)]
 pub struct Connection {
     pub sender: Sender,
     pub receiver: Receiver,
 }
 
 // The answer to an event, and the record after it.
-#[derive(Drop)]
+#[derive(Clone, Copy)]
 pub struct Stepped {
     pub answer: Answer,
     pub record: Connection,
