@@ -9,7 +9,7 @@ use lib.Dec.{leb}
 use lib.ListN.{length, get_or, set, replicate, length-map, get_or-map}
 use lib.Seq.{get_or-set_same, get_or-set_other, set-get_or}
 use borrow.Author.Tests.{le-leb, lt-leb}
-use Rattle.promise.specs.Outcome.{Done, within}
+use Rattle.promise.specs.Outcome.{within}
 use Rattle.promise.proofs.Refusing.{Past, test, number, none_left}
 use Rattle.promise.proofs.Meeting.{returns_at, part}
 use Rattle.lists.proofs.Lists.{map_set, all_set, get_or_alike}
@@ -18,7 +18,6 @@ use Rattle.rules.specs.Connection as rule
 use Rattle.rules.specs.Table.{at, outside, in_slot, on, on_refusals}
 use Rattle.rules.specs.Table as rule-table
 use Rattle.rules.specs.declared.Event.{Event}
-use Rattle.rules.specs.declared.Answer.{Answer}
 use Rattle.rules.specs.declared.Answer.TheVariants as answer
 use Rattle.rules.proofs.Settled.{on_refusal}
 use Rattle.connection.specs.declared.Connection.{Connection}

@@ -1,10 +1,8 @@
 -- `in_slot` meets its contract: a start of a record in use is refused, one of the empty record is a start, and any other event is the
 -- record's own. Assumes nothing.
-use mathlib.Core.Path.{◌≡◌, refl, sym, ap, ◌∙◌, subst}
-use mathlib.Core.Bool.{not, true, false}
+use mathlib.Core.Path.{◌≡◌, refl, sym, ap, subst}
+use mathlib.Core.Bool.{not}
 use mathlib.Core.Logic.{⊎_elim}
-use Prim.Native.Nat.{ℕ}
-use borrow.Author.Rules.{rules}
 use borrow.Author.Tests.{eq-eqb, ne_eqb}
 use Rattle.promise.specs.Outcome.{Refusals}
 use Rattle.promise.proofs.Refusing.{Past, test, number, past, none_left}
@@ -19,8 +17,7 @@ use Rattle.connection.proofs.Sides.{not_zero}
 use Rattle.connection.specs.declared.Connection.{Connection}
 use Rattle.connection.specs.declared.Stepped.{Stepped}
 use Rattle.connection.specs.Record.{meaning, empty, Sound, Steps}
-use Rattle.table.proofs.in_slot.Statement.{statement}
-use Rattle.table.proofs.in_slot.Tie as tie
+use Rattle.table.proofs.in_slot.Goals as goal
 
 -- the rule's test
 abbrev tests : Connection → Refusals
@@ -38,46 +35,17 @@ free_start x s r sound free m =
     let passed : Past (tests x) 1 = past (tests x) 0 tt (ap not (eq-eqb x.sender.room 0 free)) in
     rw (none_left (tests x) (start s) passed) (subst (λ (y : Connection). Steps y (start s) r) (sym (is_empty x sound free)) m)
 
-enum-known-event : tie.Need-enum-known-event
-enum-known-event c = search rules
-
-returns : tie.Need-returns
+pub returns-then-room-ne0 : goal.returns-then-room-ne0
 unfolding in_slot taken_refusals meaning rows.meaning test number Past
-returns c =
-    let v = c.before.before.event.given in
-    let e = c.before.before.before.before.before in
-    let x = e.args.c in
-    returns_at (tests x) (start v.0.0) (ap (in_slot (meaning x)) v.1) 0 tt (ap not (ne_eqb x.sender.room 0 c.if1.true))
-    (on_refusal refl) refl e.requires
+returns-then-room-ne0 c =
+    let x = c.args.c in
+    returns_at (tests x) (start c.in-Start.opening) (ap (in_slot (meaning x)) c.in-Start.is) 0 tt (ap not (ne_eqb x.sender.room 0 c.if-room-ne0.true))
+    (on_refusal refl) refl c.requires
 
-start-requires : tie.Need-start-requires
-start-requires c κs = search rules
+pub returns-else-room-ne0 : goal.returns-else-room-ne0
+returns-else-room-ne0 c =
+    rw c.in-Start.is (free_start c.args.c c.in-Start.opening c.start.result c.requires c.if-room-ne0.false c.start.ensures)
 
-enum-known-event-2 : tie.Need-enum-known-event-2
-enum-known-event-2 c = search rules
-
-step-requires : tie.Need-step-requires
-step-requires c κs = search rules
-
-returns-2 : tie.Need-returns-2
-returns-2 c =
-    let i = c.before in
-    let v = i.before.before.event.given in
-    let e = i.before.before.before.before.before in
-    rw v.1 (free_start e.args.c v.0.0 c.start.result e.requires i.if1.false c.start.ensures)
-
-returns-3 : tie.Need-returns-3
+pub returns-in-Use : goal.returns-in-Use
 unfolding in_slot
-returns-3 c = rw c.before.before.event2.given.1 c.step.ensures
-
-pub in_slot_spec : {M : Type 1} → statement M
-in_slot_spec =
-    tie.close
-    (tie.spec
-    enum-known-event
-    returns
-    start-requires
-    enum-known-event-2
-    step-requires
-    returns-2
-    returns-3)
+returns-in-Use c = rw c.in-Use.is c.step.ensures
