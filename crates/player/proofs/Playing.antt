@@ -6,7 +6,6 @@ use native.Mathlib.Numerals.{add-one}
 use native.Mathlib.Omega.{arith}
 use lib.ListN.{length}
 use Rattle.rules.specs.Connection as rule
-use Rattle.rules.specs.Log.{read}
 use Rattle.rules.specs.Replay.{Replied, Last, Replayed, then, replied, replay_from, replay}
 use Rattle.rules.proofs.Settled.{answer_is_rule}
 use Rattle.connection.specs.Record as connection

@@ -11,7 +11,7 @@ use rules::{Answer, PROGRAM_SLOTS, Read};
 use text::LINE;
 
 // Where a replay stands: the slots, the place in the log, the records read.
-#[derive(Drop)]
+#[derive(Clone, Copy)]
 pub struct State {
     pub slots: [Connection; PROGRAM_SLOTS],
     pub place: usize,
@@ -19,7 +19,7 @@ pub struct State {
 }
 
 // A piece of the text: how many bytes of the buffer it takes, where the replay stands after it, and whether more follows.
-#[derive(Drop)]
+#[derive(Clone, Copy)]
 pub struct Piece {
     pub length: usize,
     pub state: State,
