@@ -1,2 +1,0 @@
--- The front of a table by value, lent and back.
-pub mod Front
