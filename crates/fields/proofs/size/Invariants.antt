@@ -1,11 +1,8 @@
 -- `fields::size` meets its contract: after i widths their bits are summed. Assumes nothing.
-use mathlib.Core.Path.{◌≡◌, refl, sym, ap, ◌∙◌}
-use Prim.Native.Nat.{ℕ, ◌+◌, ◌-◌, ◌/◌, ◌≤◌}
-use native.Mathlib.Omega.{arith}
-use lib.ListN.{length, get_or, take}
-use lib.Seq.{take_all}
+use mathlib.Core.Path.{◌≡◌}
+use Prim.Native.Nat.{◌-◌, ◌≤◌}
+use lib.ListN.{length, take}
 use Rattle.lists.specs.Lists.{sum}
-use Rattle.fields.proofs.Joining.{sum_next, sum_within}
 use Rattle.fields.proofs.size.Given as goal
 
 abbrev pub invariant-loop-i : goal.invariant-loop-i

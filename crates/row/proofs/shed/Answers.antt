@@ -2,8 +2,7 @@
 -- all stand as they stood. Assumes nothing.
 use mathlib.Core.Path.{◌≡◌, refl, sym, ap, ◌∙◌}
 use mathlib.Core.List.{List}
-use mathlib.Core.Logic.{⊎_elim}
-use Prim.Native.Nat.{ℕ, ◌+◌, ◌-◌, ◌*◌, ◌≤◌, ◌<◌}
+use Prim.Native.Nat.{ℕ, ◌+◌, ◌*◌, ◌≤◌, ◌<◌}
 use native.Mathlib.Omega.{arith}
 use native.Mathlib.Decide.{dec_lt}
 use lib.ListN.{length, get_or, set, length-set, get_or-eq_default}
@@ -57,7 +56,7 @@ loop-i-preserved c =
     let i = l.loop-i.i in
     let m = l.loop-i.invariant in
     elim c.if-q-n.branch [
-      then-q-n w ↦ rw w.ws-is (one_more ws₀ q ws i (get_or ws (q + i) 0) m (omega arith) (m.stood (q + i) (omega arith)))
+      | then-q-n w ↦ rw w.ws-is (one_more ws₀ q ws i (get_or ws (q + i) 0) m (omega arith) (m.stood (q + i) (omega arith)))
       | else-q-n w ↦ rw w.ws-is (one_more ws₀ q ws i 0 m (omega arith) (sym (get_or-eq_default ws₀ 0 (omega (arith, w.if-q-n.false)))))
     ]
 

@@ -1,17 +1,9 @@
 -- `shed` meets its contract: the words below i have moved, those from i on stand as they stood, and past the end there is none; where no word goes,
 -- all stand as they stood. Assumes nothing.
-use mathlib.Core.Path.{◌≡◌, refl, sym, ap, ◌∙◌}
+use mathlib.Core.Path.{◌≡◌}
 use mathlib.Core.List.{List}
-use mathlib.Core.Logic.{⊎_elim}
-use Prim.Native.Nat.{ℕ, ◌+◌, ◌-◌, ◌*◌, ◌≤◌, ◌<◌}
-use native.Mathlib.Omega.{arith}
-use native.Mathlib.Decide.{dec_lt}
-use lib.ListN.{length, get_or, set, length-set, get_or-eq_default}
-use lib.Seq.{get_or-set_same, get_or-set_other}
-use borrow.Author.Count.{below_more, below_none}
-use Rattle.word.specs.Word.{bit_at}
-use Rattle.row.specs.Row.{at, Row}
-use Rattle.row.proofs.Rows.{at_word, row_words}
+use Prim.Native.Nat.{ℕ, ◌+◌, ◌-◌, ◌≤◌, ◌<◌}
+use lib.ListN.{length, get_or}
 use Rattle.row.proofs.shed.Given as goal
 
 -- the row ws₀ of which the words below i have moved down by q
