@@ -21,21 +21,26 @@ need_rt() { need rt 'the command of the Rattle toolchain' 'prove and build the p
 need_cargo() { need cargo "Rust's builder" 'build the program in reference/, which has the words'; }
 
 # The toolchain and all sources, as one number; and the program that was made of them: one made of others is not taken for it.
-sources() { (cd "$here" && { rt version; find crates.txt crates -type f ! -path '*/must-fail/*' -exec sha256sum {} + | sort; } | sha256sum); }
+sources() { (cd "$here" && { rt version; find crates.txt crates -type f ! -path '*/must-fail/*' ! -path '*/out/*' -exec sha256sum {} + | sort; } | sha256sum); }
 made_of() { echo "$2 $(sha256sum <"$here/target/bin/$1")"; }
 
-# What `rt check` says, as progress: a line for each crate that was proved, and all of it where one was not.
+# What `rt run` says, as progress: a line for each crate that was proved, and all of it where one was not.
 progress() {
     n=0
+    began=$(date +%s)
     while IFS= read -r line; do
         case $line in
             'mrc-status 0') echo "mrc: $1 is built"; exit 0 ;;
             mrc-status*) cat "$here/target/made/$1.said"; echo "mrc: $1 is not built, see above"; exit 2 ;;
-            'rt: '*' proved (unchanged '*) n=$((n + 1)) ;;
-            'rt: '*' proved ('*)
+            'crate '*': modules '*) crate=${line#crate } ;;
+            'logic=proved '*)
                 n=$((n + 1))
-                line=${line#rt: }
-                echo "mrc: $n of $2, ${line%% *} is proved ${line#* proved }"
+                now=$(date +%s)
+                case $crate in
+                    *' checked=0') ;;
+                    *) echo "mrc: $n of $2, ${crate%%:*} is proved ($((now - began)) s)" ;;
+                esac
+                began=$now
                 ;;
         esac
         printf '%s\n' "$line" >>"$here/target/made/$1.said"
@@ -49,13 +54,13 @@ build() {
     from=$(sources)
     known=$(cat "$here/target/made/$1" 2>/dev/null)
     [ -x "$here/target/bin/$1" ] && [ "$(made_of "$1" "$from")" = "$known" ] && return
-    # gone, or replaced since it was made of these sources
-    [ -x "$here/target/bin/$1" ] && [ "${known%"${known#"$from"}"}" != "$from" ] || rm -f "$here/target/stamp/$1"
     all=1
     for c in $(sed -n "s/^$1: *//p" "$here/crates.txt"); do [ ! -d "$here/crates/$c" ] || all=$((all + 1)); done
     echo "mrc: building $1: $all crates are to be proved, but for those that have not changed. From nothing it takes two to five minutes." >&2
     mkdir -p "$here/target/made" && rm -f "$here/target/made/$1" && : >"$here/target/made/$1.said" || stop "$here/target cannot be written"
-    (cd "$here" && { rt check "$1" 2>&1; echo "mrc-status $?"; }) | progress "$1" "$all" || exit 2
+    # the program is run on no input as soon as it is built; what counts is that it was
+    (cd "$here/crates/$1" && rm -f "out/$1" && { rt run </dev/null 2>&1; [ -x "out/$1" ]; echo "mrc-status $?"; }) | progress "$1" "$all" || exit 2
+    mkdir -p "$here/target/bin" && cp "$here/crates/$1/out/$1" "$here/target/bin/$1" || stop "$here/target cannot be written"
     made_of "$1" "$from" >"$here/target/made/$1"
 }
 
@@ -66,15 +71,8 @@ built() {
     if command -v flock >/dev/null 2>&1; then (flock 9 && build "$1") 9>"$here/target/lock"; else (build "$1"); fi || exit 2
 }
 
-# the command line of a program of target/bin: it is built for x86-64, and the toolchain's emulator runs it elsewhere, as a plain
-# processor, on which it copies memory by words and not by bytes
-program() {
-    home=$(dirname "$(dirname "$(rt doc)")")
-    tools=$home/on/$(uname -m)/toolchain
-    emulator=$tools/bin/qemu-x86_64
-    [ -x "$emulator" ] && [ "$(uname -m)" != x86_64 ] || emulator=
-    printf '%s\n' ${emulator:+"$emulator" -cpu qemu64} "$tools/lib/ld-linux-x86-64.so.2" --library-path "$tools/lib" "$here/target/bin/$1"
-}
+# the command line of a program of target/bin: it is built for x86-64
+program() { printf '%s\n' "$here/target/bin/$1"; }
 
 # runs a program, behind the words given
 run() {
