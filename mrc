@@ -36,10 +36,7 @@ progress() {
             'logic=proved '*)
                 n=$((n + 1))
                 now=$(date +%s)
-                case $crate in
-                    *' checked=0') ;;
-                    *) echo "mrc: $n of $2, ${crate%%:*} is proved ($((now - began)) s)" ;;
-                esac
+                echo "mrc: $n of $2, ${crate%%:*} is proved ($((now - began)) s)"
                 began=$now
                 ;;
         esac
@@ -56,7 +53,7 @@ build() {
     [ -x "$here/target/bin/$1" ] && [ "$(made_of "$1" "$from")" = "$known" ] && return
     all=1
     for c in $(sed -n "s/^$1: *//p" "$here/crates.txt"); do [ ! -d "$here/crates/$c" ] || all=$((all + 1)); done
-    echo "mrc: building $1: $all crates are to be proved, but for those that have not changed. From nothing it takes two to five minutes." >&2
+    echo "mrc: building $1: $all crates are to be proved, but for those that have not changed. From nothing it takes some minutes." >&2
     mkdir -p "$here/target/made" && rm -f "$here/target/made/$1" && : >"$here/target/made/$1.said" || stop "$here/target cannot be written"
     # the program is run on no input as soon as it is built; what counts is that it was
     (cd "$here/crates/$1" && rm -f "out/$1" && { rt run </dev/null 2>&1; [ -x "out/$1" ]; echo "mrc-status $?"; }) | progress "$1" "$all" || exit 2
