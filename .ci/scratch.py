@@ -110,8 +110,9 @@ def check(work, crate):
     found = re.search(r"^(\S+?\.antt):(\d+):\d+: error: `([^`]+)`", said, re.M)
     if found is None:
         return done.returncode == 0, None
-    file = (work / "crates" / crate / found.group(1)).resolve().relative_to((work / "crates").resolve())
-    return done.returncode == 0, Place(str(file), found.group(2), found.group(3))
+    # a crate's errors stand before the line that counts its modules
+    counted = re.compile(r"^crate (\w+): modules", re.M).search(said, found.end())
+    return done.returncode == 0, Place(f"{counted.group(1) if counted else crate}/{found.group(1).removeprefix('./')}", found.group(2), found.group(3))
 
 
 def claim(work, claims):
