@@ -1,16 +1,11 @@
-//! The library's functions, by the batches over them in `batches.rattle`: over lent rows, and by value. A lent slice is passed as a pointer to where it
+//! The library's functions, by the batches over them in `batches.rattle`: over lent rows, and by value. A lent slice is passed as where it
 //! begins and how long it is.
 use crate::plain::LARGEST_ROOM;
 use crate::{Arrivals, Card, Nacks, Sacks};
 
-#[repr(C)]
 struct Slice<T> {
     first: *const T,
     len: usize,
-}
-
-fn lent<T>(slice: &[T]) -> Slice<T> {
-    Slice { first: slice.as_ptr(), len: slice.len() }
 }
 
 fn lent_mut<T>(slice: &mut [T]) -> Slice<T> {
@@ -20,34 +15,33 @@ fn lent_mut<T>(slice: &mut [T]) -> Slice<T> {
 type Words = Slice<u64>;
 type Scalars = Slice<u32>;
 type Sizes = Slice<u16>;
-type Bytes = Slice<u8>;
 
 extern "C" {
-    fn mrc_start_receiving(state: &Scalars, words: &Words, room: u16, first: u32);
-    fn mrc_arrivals(state: &Scalars, words: &Words, psn: &Scalars, size: &Sizes, flags: &Bytes, entropy: &Scalars, out: &Words);
-    fn mrc_start_sending(state: &Scalars, sizes: &Sizes, retired: &Words, marked: &Words, room: u16, first: u32);
-    fn mrc_sends(state: &Scalars, sizes: &Sizes, retired: &Words, marked: &Words, size: &Sizes, out: &Words);
-    fn mrc_sacks(state: &Scalars, sizes: &Sizes, retired: &Words, marked: &Words, cack: &Scalars, base: &Scalars, bitmap: &Words, out: &Words);
-    fn mrc_nacks(state: &Scalars, sizes: &Sizes, retired: &Words, marked: &Words, psn: &Scalars, reason: &Bytes, out: &Words);
-    fn mrc_timers(state: &Scalars, sizes: &Sizes, retired: &Words, marked: &Words, psn: &Scalars, out: &Words);
-    fn mrc_resends(state: &Scalars, sizes: &Sizes, retired: &Words, marked: &Words, many: usize, out: &Words);
+    fn mrc_start_receiving(state: *const u32, state_long: usize, words: *const u64, words_long: usize, room: u16, first: u32);
+    fn mrc_arrivals(state: *const u32, state_long: usize, words: *const u64, words_long: usize, psn: *const u32, psn_long: usize, size: *const u16, size_long: usize, flags: *const u8, flags_long: usize, entropy: *const u32, entropy_long: usize, out: *const u64, out_long: usize);
+    fn mrc_start_sending(state: *const u32, state_long: usize, sizes: *const u16, sizes_long: usize, retired: *const u64, retired_long: usize, marked: *const u64, marked_long: usize, room: u16, first: u32);
+    fn mrc_sends(state: *const u32, state_long: usize, sizes: *const u16, sizes_long: usize, retired: *const u64, retired_long: usize, marked: *const u64, marked_long: usize, size: *const u16, size_long: usize, out: *const u64, out_long: usize);
+    fn mrc_sacks(state: *const u32, state_long: usize, sizes: *const u16, sizes_long: usize, retired: *const u64, retired_long: usize, marked: *const u64, marked_long: usize, cack: *const u32, cack_long: usize, base: *const u32, base_long: usize, bitmap: *const u64, bitmap_long: usize, out: *const u64, out_long: usize);
+    fn mrc_nacks(state: *const u32, state_long: usize, sizes: *const u16, sizes_long: usize, retired: *const u64, retired_long: usize, marked: *const u64, marked_long: usize, psn: *const u32, psn_long: usize, reason: *const u8, reason_long: usize, out: *const u64, out_long: usize);
+    fn mrc_timers(state: *const u32, state_long: usize, sizes: *const u16, sizes_long: usize, retired: *const u64, retired_long: usize, marked: *const u64, marked_long: usize, psn: *const u32, psn_long: usize, out: *const u64, out_long: usize);
+    fn mrc_resends(state: *const u32, state_long: usize, sizes: *const u16, sizes_long: usize, retired: *const u64, retired_long: usize, marked: *const u64, marked_long: usize, many: usize, out: *const u64, out_long: usize);
 
     fn mrc_start_receiving_by_value(record: *mut u64, room: u16, first: u32);
-    fn mrc_arrivals_by_value(record: *mut u64, psn: &Scalars, size: &Sizes, flags: &Bytes, entropy: &Scalars, out: &Words);
+    fn mrc_arrivals_by_value(record: *mut u64, psn: *const u32, psn_long: usize, size: *const u16, size_long: usize, flags: *const u8, flags_long: usize, entropy: *const u32, entropy_long: usize, out: *const u64, out_long: usize);
     fn mrc_start_sending_by_value(record: *mut u64, room: u16, first: u32);
-    fn mrc_sends_by_value(record: *mut u64, size: &Sizes, out: &Words);
-    fn mrc_sacks_by_value(record: *mut u64, cack: &Scalars, base: &Scalars, bitmap: &Words, out: &Words);
-    fn mrc_nacks_by_value(record: *mut u64, psn: &Scalars, reason: &Bytes, out: &Words);
-    fn mrc_timers_by_value(record: *mut u64, psn: &Scalars, out: &Words);
-    fn mrc_resends_by_value(record: *mut u64, many: usize, out: &Words);
+    fn mrc_sends_by_value(record: *mut u64, size: *const u16, size_long: usize, out: *const u64, out_long: usize);
+    fn mrc_sacks_by_value(record: *mut u64, cack: *const u32, cack_long: usize, base: *const u32, base_long: usize, bitmap: *const u64, bitmap_long: usize, out: *const u64, out_long: usize);
+    fn mrc_nacks_by_value(record: *mut u64, psn: *const u32, psn_long: usize, reason: *const u8, reason_long: usize, out: *const u64, out_long: usize);
+    fn mrc_timers_by_value(record: *mut u64, psn: *const u32, psn_long: usize, out: *const u64, out_long: usize);
+    fn mrc_resends_by_value(record: *mut u64, many: usize, out: *const u64, out_long: usize);
 
-    fn mrc_replays(log: &Bytes, out: &Bytes, told: &Words);
+    fn mrc_replays(log: *const u8, log_long: usize, out: *const u8, out_long: usize, told: *const u64, told_long: usize);
 }
 
 /// How many bytes of text the replay of a log has behind its head.
 pub fn replays(log: &[u8], out: &mut [u8]) -> u64 {
     let mut told = [0];
-    unsafe { mrc_replays(&lent(log), &lent_mut(out), &lent_mut(&mut told)) };
+    unsafe { mrc_replays(log.as_ptr(), log.len(), out.as_mut_ptr(), out.len(), told.as_mut_ptr(), told.len()) };
     told[0]
 }
 
@@ -94,7 +88,7 @@ impl Card for Lent {
     fn receiver(room: u16, first: u32) -> Receiver {
         let mut receiver = Receiver { state: [0; 3], words: [0; WORDS], lent: room as usize / 64 + 1 };
         let (state, words) = (lent_mut(&mut receiver.state), lent_mut(&mut receiver.words[..receiver.lent]));
-        unsafe { mrc_start_receiving(&state, &words, room, first) };
+        unsafe { mrc_start_receiving(state.first, state.len, words.first, words.len, room, first) };
         receiver
     }
 
@@ -102,44 +96,44 @@ impl Card for Lent {
         let lent = room as usize / 64 + 1;
         let mut sender = Sender { state: [0; 4], sizes: [0; LARGEST_ROOM], retired: [0; WORDS], marked: [0; WORDS], lent };
         let (state, sizes, retired, marked) = sender.rows();
-        unsafe { mrc_start_sending(&state, &sizes, &retired, &marked, room, first) };
+        unsafe { mrc_start_sending(state.first, state.len, sizes.first, sizes.len, retired.first, retired.len, marked.first, marked.len, room, first) };
         sender
     }
 
     fn arrivals(receiver: &mut Receiver, e: Arrivals, out: &mut [u64]) {
         e.check(out);
         let (state, words) = (lent_mut(&mut receiver.state), lent_mut(&mut receiver.words[..receiver.lent]));
-        unsafe { mrc_arrivals(&state, &words, &lent(e.psn), &lent(e.size), &lent(e.flags), &lent(e.entropy), &lent_mut(out)) }
+        unsafe { mrc_arrivals(state.first, state.len, words.first, words.len, e.psn.as_ptr(), e.psn.len(), e.size.as_ptr(), e.size.len(), e.flags.as_ptr(), e.flags.len(), e.entropy.as_ptr(), e.entropy.len(), out.as_mut_ptr(), out.len()) }
     }
 
     fn sends(sender: &mut Sender, size: &[u16], out: &mut [u64]) {
         assert!(out.len() >= 4 * size.len());
         let (state, sizes, retired, marked) = sender.rows();
-        unsafe { mrc_sends(&state, &sizes, &retired, &marked, &lent(size), &lent_mut(out)) }
+        unsafe { mrc_sends(state.first, state.len, sizes.first, sizes.len, retired.first, retired.len, marked.first, marked.len, size.as_ptr(), size.len(), out.as_mut_ptr(), out.len()) }
     }
 
     fn sacks(sender: &mut Sender, e: &Sacks, out: &mut [u64]) {
         e.check(out);
         let (state, sizes, retired, marked) = sender.rows();
-        unsafe { mrc_sacks(&state, &sizes, &retired, &marked, &lent(&e.cack), &lent(&e.base), &lent(&e.bitmap), &lent_mut(out)) }
+        unsafe { mrc_sacks(state.first, state.len, sizes.first, sizes.len, retired.first, retired.len, marked.first, marked.len, e.cack.as_ptr(), e.cack.len(), e.base.as_ptr(), e.base.len(), e.bitmap.as_ptr(), e.bitmap.len(), out.as_mut_ptr(), out.len()) }
     }
 
     fn nacks(sender: &mut Sender, e: &Nacks, out: &mut [u64]) {
         e.check(out);
         let (state, sizes, retired, marked) = sender.rows();
-        unsafe { mrc_nacks(&state, &sizes, &retired, &marked, &lent(&e.psn), &lent(&e.reason), &lent_mut(out)) }
+        unsafe { mrc_nacks(state.first, state.len, sizes.first, sizes.len, retired.first, retired.len, marked.first, marked.len, e.psn.as_ptr(), e.psn.len(), e.reason.as_ptr(), e.reason.len(), out.as_mut_ptr(), out.len()) }
     }
 
     fn timers(sender: &mut Sender, psn: &[u32], out: &mut [u64]) {
         assert!(out.len() >= 4 * psn.len());
         let (state, sizes, retired, marked) = sender.rows();
-        unsafe { mrc_timers(&state, &sizes, &retired, &marked, &lent(psn), &lent_mut(out)) }
+        unsafe { mrc_timers(state.first, state.len, sizes.first, sizes.len, retired.first, retired.len, marked.first, marked.len, psn.as_ptr(), psn.len(), out.as_mut_ptr(), out.len()) }
     }
 
     fn resends(sender: &mut Sender, many: usize, out: &mut [u64]) {
         assert!(out.len() >= 4 * many);
         let (state, sizes, retired, marked) = sender.rows();
-        unsafe { mrc_resends(&state, &sizes, &retired, &marked, many, &lent_mut(out)) }
+        unsafe { mrc_resends(state.first, state.len, sizes.first, sizes.len, retired.first, retired.len, marked.first, marked.len, many, out.as_mut_ptr(), out.len()) }
     }
 }
 
@@ -177,31 +171,31 @@ impl Card for Value {
     fn arrivals(receiver: &mut Own, e: Arrivals, out: &mut [u64]) {
         e.check(out);
         let record = receiver.0.as_mut_ptr();
-        unsafe { mrc_arrivals_by_value(record, &lent(e.psn), &lent(e.size), &lent(e.flags), &lent(e.entropy), &lent_mut(out)) }
+        unsafe { mrc_arrivals_by_value(record, e.psn.as_ptr(), e.psn.len(), e.size.as_ptr(), e.size.len(), e.flags.as_ptr(), e.flags.len(), e.entropy.as_ptr(), e.entropy.len(), out.as_mut_ptr(), out.len()) }
     }
 
     fn sends(sender: &mut Own, size: &[u16], out: &mut [u64]) {
         assert!(out.len() >= 4 * size.len());
-        unsafe { mrc_sends_by_value(sender.0.as_mut_ptr(), &lent(size), &lent_mut(out)) }
+        unsafe { mrc_sends_by_value(sender.0.as_mut_ptr(), size.as_ptr(), size.len(), out.as_mut_ptr(), out.len()) }
     }
 
     fn sacks(sender: &mut Own, e: &Sacks, out: &mut [u64]) {
         e.check(out);
-        unsafe { mrc_sacks_by_value(sender.0.as_mut_ptr(), &lent(&e.cack), &lent(&e.base), &lent(&e.bitmap), &lent_mut(out)) }
+        unsafe { mrc_sacks_by_value(sender.0.as_mut_ptr(), e.cack.as_ptr(), e.cack.len(), e.base.as_ptr(), e.base.len(), e.bitmap.as_ptr(), e.bitmap.len(), out.as_mut_ptr(), out.len()) }
     }
 
     fn nacks(sender: &mut Own, e: &Nacks, out: &mut [u64]) {
         e.check(out);
-        unsafe { mrc_nacks_by_value(sender.0.as_mut_ptr(), &lent(&e.psn), &lent(&e.reason), &lent_mut(out)) }
+        unsafe { mrc_nacks_by_value(sender.0.as_mut_ptr(), e.psn.as_ptr(), e.psn.len(), e.reason.as_ptr(), e.reason.len(), out.as_mut_ptr(), out.len()) }
     }
 
     fn timers(sender: &mut Own, psn: &[u32], out: &mut [u64]) {
         assert!(out.len() >= 4 * psn.len());
-        unsafe { mrc_timers_by_value(sender.0.as_mut_ptr(), &lent(psn), &lent_mut(out)) }
+        unsafe { mrc_timers_by_value(sender.0.as_mut_ptr(), psn.as_ptr(), psn.len(), out.as_mut_ptr(), out.len()) }
     }
 
     fn resends(sender: &mut Own, many: usize, out: &mut [u64]) {
         assert!(out.len() >= 4 * many);
-        unsafe { mrc_resends_by_value(sender.0.as_mut_ptr(), many, &lent_mut(out)) }
+        unsafe { mrc_resends_by_value(sender.0.as_mut_ptr(), many, out.as_mut_ptr(), out.len()) }
     }
 }
