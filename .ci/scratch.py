@@ -68,17 +68,29 @@ def of_definition(lines):
     return all(text.startswith("specs/") for key, text in lines if key == "file")
 
 
-def lay(work, crates, bare, cited):
-    """The crates of a scratch repository: no must-fail edits, of the bare ones the definitions alone, of `rules` the cited proofs alone."""
+def lay(work, crates, bare, cited, functions=True):
+    """The crates of a scratch repository: no must-fail edits, of the bare ones the definitions alone, of `rules` the cited proofs, and its
+    functions with their proofs and what these cite, or without its functions its types and definitions."""
     for crate in crates:
         shutil.copytree(top / "crates" / crate, work / "crates" / crate, ignore=shutil.ignore_patterns("must-fail", "out"))
     listed = [line for line in (top / "crates.txt").read_text().splitlines() if line.split(":")[0] in crates]
     (work / "crates.txt").write_text("\n".join(listed) + "\n")
     proofs = work / "crates/rules/proofs"
+    if not functions:
+        source = work / "crates/rules/src/lib.rt"
+        source.write_text(re.sub(r"^impl\b.*?^}\n|^ghost use .*?\n", "", source.read_text(), flags=re.M | re.S))
+        for path in proofs.iterdir():
+            if path.is_dir():
+                shutil.rmtree(path)
+    # what the proofs of functions cite, and what that cites
+    cited, read = [*cited], [*proofs.glob("*/**/*.antt")]
+    while read:
+        for name in re.findall(r"^use Rattle\.rules\.proofs\.(\w+)\b", read.pop().read_text(), re.M):
+            if name not in cited and (proofs / f"{name}.antt").exists():
+                cited.append(name)
+                read.append(proofs / f"{name}.antt")
     for path in proofs.iterdir():
-        if path.is_dir():
-            shutil.rmtree(path)
-        elif path.stem not in cited:
+        if path.is_file() and path.stem not in cited:
             path.unlink()
     for crate in bare:
         shutil.rmtree(work / "crates" / crate / "proofs")

@@ -3,9 +3,10 @@
 use mathlib.Core.Path.{◌≡◌, refl, sym, ap, ◌∙◌}
 use Prim.Native.Nat.{ℕ}
 use native.Mathlib.Omega.{arith}
+use Rattle.std.specs.Prelude.{Ok}
 use Rattle.promise.specs.Outcome.{Outcome, Done, left}
 use Rattle.promise.proofs.Refusing.{through}
-use Rattle.rules.specs.Paper.{answered}
+use Rattle.rules.specs.Paper.{Reply, answered}
 use Rattle.rules.specs.Connection.{fresh, start, start_refusals}
 use Rattle.rules.specs.Connection as rule
 use Rattle.rules.specs.Receiver as rule_receiver
@@ -25,15 +26,15 @@ use Rattle.bridge.proofs.Engines.{gives}
 use Rattle.bridge.proofs.Halves.{Half, sending_half, receiving_half, step_answer, step_next, step_same}
 
 -- a start that is done leaves the two fresh sides
-start_leaves : (s : Start) (c : rule.Connection) → answered (start s) ≡ answer.Started → left c (start s) ≡ fresh s
+start_leaves : (s : Start) (c : rule.Connection) → answered (start s) ≡ Ok answer.Started → left c (start s) ≡ fresh s
 unfolding start left answered
 start_leaves s c =
-    through (λ (o : Outcome Answer rule.Connection). answered o ≡ answer.Started → left c o ≡ fresh s) (start_refusals s) (Done (fresh s) answer.Started)
+    through (λ (o : Outcome Answer rule.Connection). answered o ≡ Ok answer.Started → left c o ≡ fresh s) (start_refusals s) (Done (fresh s) answer.Started)
     (λ n h. let z : ◌≡◌ {A = ℕ} 0 1 = cc in absurd (omega arith)) (λ _ h. refl)
 
 -- what any half of a connection is in the rules'; `in_it` is what the half's own record means
 module _ {P Q E : Type 0} (H : Half P Q E) (in_it : Connection → P) (at_it : (c : Connection) → H.mine (meaning c) ≡ in_it c) where
-  steps : (c : Connection) (e : E) (a : Answer) (d : Connection) → On c (H.event_of e) a d → Gives (in_it c) (H.law (in_it c) e) a (in_it d)
+  steps : (c : Connection) (e : E) (a : Reply) (d : Connection) → On c (H.event_of e) a d → Gives (in_it c) (H.law (in_it c) e) a (in_it d)
   steps c e a d m =
       gives (in_it c) (H.law (in_it c) e) a (in_it d)
       (answer_is_rule m ∙ step_answer H (meaning c) e ∙ ap (λ x. answered (H.law x e)) (at_it c))
@@ -49,7 +50,7 @@ module _ {P Q E : Type 0} (H : Half P Q E) (in_it : Connection → P) (at_it : (
 
 -- an event of a half leaves the other
 beside : {P Q E : Type 0} (H : Half P Q E) (in_it : Connection → Q) → ((c : Connection) → H.other (meaning c) ≡ in_it c)
-    → (c d : Connection) → (e : E) × (a : Answer) × On c (H.event_of e) a d → in_it d ≡ in_it c
+    → (c d : Connection) → (e : E) × (a : Reply) × On c (H.event_of e) a d → in_it d ≡ in_it c
 beside H in_it at_it c d b = sym (at_it d) ∙ ap H.other b.2.record_is ∙ step_same H (meaning c) b.0 ∙ at_it c
 
 -- ---- the two halves

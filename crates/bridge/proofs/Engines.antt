@@ -1,8 +1,9 @@
--- The engines by value follow the rules: each answer is the rule's, and each record means the rule's next. Assumes nothing.
+-- The engines follow the rules: each answer is the rule's, and each record means the rule's next. Assumes nothing.
 use mathlib.Core.Path.{◌≡◌, refl, ap, ◌∙◌}
 use Rattle.promise.specs.Outcome.{Outcome, left}
 use Rattle.promise.specs.Promise.{Meets}
-use Rattle.rules.specs.Paper.{paper, answered}
+use Rattle.rules.specs.Numbered.{number}
+use Rattle.rules.specs.Paper.{paper, Reply, answered}
 use Rattle.rules.specs.declared.Answer.{Answer}
 use Rattle.rules.proofs.Settled.{answer_is_rule}
 use Rattle.sender.specs.Record as sender
@@ -13,12 +14,12 @@ use Rattle.delivery.proofs.Following.{Follows, keeps}
 use Rattle.bridge.specs.Engines.{engines, EnginesKeep}
 
 -- the rule's own answer and record
-pub gives : {S : Type 0} (x : S) (o : Outcome Answer S) (a : Answer) (y : S) → a ≡ answered o → y ≡ left x o → Gives x o a y
+pub gives : {S : Type 0} (x : S) (o : Outcome Answer S) (a : Reply) (y : S) → a ≡ answered o → y ≡ left x o → Gives x o a y
 gives x o a y p q = rw (p, q) given
 
 -- what a promise gives
-meets_gives : {R S : Type 0} {Sound : R → Type 0} {meaning : R → S} (x : R) (o : Outcome Answer S) (a : Answer) (y : R)
-    → Meets paper Sound meaning x o a y → Gives (meaning x) o a (meaning y)
+meets_gives : {R S : Type 0} {Sound : R → Type 0} {meaning : R → S} (x : R) (o : Outcome Answer S) (a : Reply) (y : R)
+    → Meets paper number Sound meaning x o a y → Gives (meaning x) o a (meaning y)
 meets_gives {meaning = meaning} x o a y m = gives (meaning x) o a (meaning y) (answer_is_rule m) m.record_is
 
 unfoldable sender_follows : Follows engines.sender rules.sender

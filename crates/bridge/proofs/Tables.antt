@@ -8,11 +8,10 @@ use Prim.Native.Nat.{ℕ}
 use native.Mathlib.Decide.{ℕ_discrete}
 use lib.ListN.{get_or}
 use Rattle.promise.specs.Outcome.{left}
-use Rattle.rules.specs.Paper.{answered}
+use Rattle.rules.specs.Paper.{Reply, answered}
 use Rattle.rules.specs.Connection.{fresh}
 use Rattle.rules.specs.Connection as rule
 use Rattle.rules.specs.Table.{at, outside, on}
-use Rattle.rules.specs.declared.Answer.{Answer}
 use Rattle.rules.specs.declared.Opening.{Opening}
 use Rattle.rules.specs.declared.Start.{Start}
 use Rattle.rules.specs.declared.Event.{Event}
@@ -45,7 +44,7 @@ module _ {P Q E : Type 0} (H : Half P Q E) (i : ℕ) (means : Connection → P)
   abbrev in_it : List Connection → P
   in_it t = means (get_or t i empty)
 
-  steps : (t : List Connection) (e : E) (a : Answer) (u : List Connection) → Here i t → On t i (event.Use (H.event_of e)) a u
+  steps : (t : List Connection) (e : E) (a : Reply) (u : List Connection) → Here i t → On t i (event.Use (H.event_of e)) a u
       → Gives (in_it t) (H.law (in_it t) e) a (in_it u) × Here i u
   steps t e a u here m =
       let said : a ≡ answered (H.law (H.mine (at (meaning t) i)) e) = answer_is_rule m.meets ∙ half_answer H (meaning t) i here e in

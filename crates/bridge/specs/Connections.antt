@@ -1,6 +1,6 @@
 -- The same for two connections by value, as `Connection::start` and `Connection::step` hand them out: the sending side of the one and the
 -- receiving side of the other, while any event of the side beside it may happen on either.
-use Rattle.std.specs.Prelude.{◌≡◌}
+use Rattle.std.specs.Prelude.{◌≡◌, Ok}
 use Rattle.rules.specs.Connection as rule
 use Rattle.rules.specs.Receiver as rule_receiver
 use Rattle.rules.specs.Receiving.{Receiving}
@@ -8,12 +8,11 @@ use Rattle.rules.specs.Sender as rule_sender
 use Rattle.rules.specs.declared.Opening.{Opening}
 use Rattle.rules.specs.declared.Start.{Start}
 use Rattle.rules.specs.declared.Sending.{Sending}
-use Rattle.rules.specs.declared.Answer.{Answer}
+use Rattle.rules.specs.Paper.{Reply}
 use Rattle.rules.specs.declared.Answer.TheVariants as answer
 use Rattle.rules.specs.declared.Use.{Use}
 use Rattle.rules.specs.declared.Use.TheVariants as use-of
 use Rattle.connection.specs.declared.Connection.{Connection}
-use Rattle.connection.specs.declared.Stepped.{Stepped}
 use Rattle.connection.specs.Record.{empty, meaning, Steps}
 use Rattle.sender.specs.Record as sender
 use Rattle.receiver.specs.Record as receiver
@@ -28,19 +27,15 @@ sending_of c = sender.meaning c.sender
 abbrev pub receiving_of : Connection → rule_receiver.Receiver
 receiving_of c = receiver.meaning c.receiver
 
--- an answer and the record after it, as a call hands them out
-abbrev pub out : Answer → Connection → Stepped
-out a c = record { answer = a; «record» = c }
-
 -- a start that is done, with a side that opens so: the other side as it may be
 pub record Begun (opens : Start → Opening) (o : Opening) (c : Connection) : Type 0 where
   pub start : Start
   pub opens_so : opens start ≡ o
-  pub begun : Steps empty (rule.start start) (out answer.Started c)
+  pub begun : Steps empty (rule.start start) (Ok answer.Started) c
 
 -- what `step` promises of an event
-abbrev pub On : Connection → Use → Answer → Connection → Type 0
-On c e a d = Steps c (rule.step (meaning c) e) (out a d)
+abbrev pub On : Connection → Use → Reply → Connection → Type 0
+On c e r d = Steps c (rule.step (meaning c) e) r d
 
 abbrev pub connections : Sides
 connections = record {
@@ -48,15 +43,15 @@ connections = record {
     State = Connection;
     place = λ c. (sending_of c).place;
     Begins = λ o c. Begun sending_opens o c;
-    Steps = λ c e a d. On c (use-of.Sends e) a d;
-    Beside = λ c d. (e : Receiving) × (a : Answer) × On c (use-of.Receives e) a d;
+    Steps = λ c e r d. On c (use-of.Sends e) r d;
+    Beside = λ c d. (e : Receiving) × (r : Reply) × On c (use-of.Receives e) r d;
   };
   receiver = record {
     State = Connection;
     place = λ c. (receiving_of c).expected;
     Begins = λ o c. Begun receiving_opens o c;
-    Steps = λ c e a d. On c (use-of.Receives e) a d;
-    Beside = λ c d. (e : Sending) × (a : Answer) × On c (use-of.Sends e) a d;
+    Steps = λ c e r d. On c (use-of.Receives e) r d;
+    Beside = λ c d. (e : Sending) × (r : Reply) × On c (use-of.Sends e) r d;
   };
 }
 

@@ -1,13 +1,13 @@
 -- The same inside tables: the sending side of slot i of one table and the receiving side of slot j of another, while anything else may
 -- happen in either table that does not start, close or send from the one side, nor start, close or reach the other.
-use Rattle.std.specs.Prelude.{◌≡◌, List, ◌≢◌, ◌⊎◌, ℕ, get_or}
+use Rattle.std.specs.Prelude.{◌≡◌, Ok, List, ◌≢◌, ◌⊎◌, ℕ, get_or}
 use Rattle.rules.specs.Receiver as rule_receiver
 use Rattle.rules.specs.Receiving as receiving
 use Rattle.rules.specs.Sender as rule_sender
 use Rattle.rules.specs.declared.Opening.{Opening}
 use Rattle.rules.specs.declared.Start.{Start}
 use Rattle.rules.specs.declared.Sending as sending
-use Rattle.rules.specs.declared.Answer.{Answer}
+use Rattle.rules.specs.Paper.{Reply}
 use Rattle.rules.specs.declared.Answer.TheVariants as answer
 use Rattle.rules.specs.declared.Event.{Event}
 use Rattle.rules.specs.declared.Event.TheVariants as event
@@ -33,7 +33,7 @@ pub record Started (slot : ℕ) (opens : Start → Opening) (o : Opening) (t : L
   pub start : Start
   pub before_sound : AllSound before
   pub opens_so : opens start ≡ o
-  pub started : On before slot (event.Start start) answer.Started t
+  pub started : On before slot (event.Start start) (Ok answer.Started) t
 
 abbrev pub sending_opens : Start → Opening
 sending_opens s = s.sending
@@ -52,7 +52,7 @@ pub data Receiving : Event → Type 0 where
 pub record Else (slot : ℕ) (Other : Event → Type 0) (t u : List Connection) : Type 0 where
   pub where_it_is : ℕ
   pub what : Event
-  pub said : Answer
+  pub said : Reply
   pub elsewhere : (where_it_is ≢ slot) ⊎ Other what
   pub on : On t where_it_is what said u
 
@@ -62,14 +62,14 @@ tables i j = record {
     State = List Connection;
     place = λ t. (sending_in i t).place;
     Begins = λ o t. Started i sending_opens o t;
-    Steps = λ t e a u. On t i (event.Use (use-of.Sends e)) a u;
+    Steps = λ t e r u. On t i (event.Use (use-of.Sends e)) r u;
     Beside = λ t u. Else i Receiving t u;
   };
   receiver = record {
     State = List Connection;
     place = λ t. (receiving_in j t).expected;
     Begins = λ o t. Started j receiving_opens o t;
-    Steps = λ t e a u. On t j (event.Use (use-of.Receives e)) a u;
+    Steps = λ t e r u. On t j (event.Use (use-of.Receives e)) r u;
     Beside = λ t u. Else j Sending t u;
   };
 }

@@ -3,19 +3,17 @@
 // and a question mark, and changes nothing. The program keeps a table of 20 slots and 33,000 bytes for logs.
 #![tactic(auto)]
 
-ghost use Rattle.std.specs.Prelude.{◌≤◌};
 ghost use Rattle.receiving.specs.Lent.{Sound as SoundLent};
 ghost use Rattle.receiver.specs.Record.{lent_of, Sound};
 ghost use Rattle.table.specs.Slots.{AllSound};
 
 use connection::Connection;
-use kinds::FIELDS;
+use lines::Page;
 use psn::Psn;
 use receiver::Receiver;
-use receiving::Head;
 use rules::{
-    Answer, Arrival, Block, Event, KINDS, LARGEST_ROOM, Opening, Options, Read, Sending, Start,
-    Use, WORDS, Written,
+    Answer, Arrival, Block, Event, Kind, LARGEST_ROOM, Opening, Options, Refusal, Sending, Start,
+    Use, WORDS,
 };
 use sender::SIZES;
 
@@ -36,29 +34,6 @@ const SHOWN: usize = 40;
 // Room for the longest line: of a record, whose numbers have at most 20 digits, its sizes 5, with the space or the end of the line behind each.
 const LINE: usize = 21 * (8 + 3 * (1 + WORDS)) + 6 * SIZES;
 
-// The largest numbers of 8, 16, 32 and 64 bits.
-const MOST_8: u64 = 0xFF;
-
-const MOST_16: u64 = 0xFFFF;
-
-const MOST_32: u64 = 0xFFFF_FFFF;
-
-const MOST_64: u64 = 0xFFFF_FFFF_FFFF_FFFF;
-
-// The table after an event on it, and the answer.
-#[derive(Drop)]
-struct Answered {
-    answer: Answer,
-    table: [Connection; TABLE],
-}
-
-// The table after a call, and where its line ends.
-#[derive(Drop)]
-struct Kept {
-    table: [Connection; TABLE],
-    end: usize,
-}
-
 // A call's numbers.
 fn call_of(input: &[u8; CALL]) -> [u64; NUMBERS] {
     let widths = [64u8; NUMBERS];
@@ -68,572 +43,349 @@ fn call_of(input: &[u8; CALL]) -> [u64; NUMBERS] {
 }
 
 // Says that a call is out of range.
-fn unknown(out: &mut [u8], at: usize) -> usize {
-    let p = lines::push(out, at, b' ');
-    lines::push(out, p, b'?')
+fn unknown(page: &mut Page) {
+    page.push_bytes(b" ?");
 }
 
-// Puts the first so many of some numbers, a space before each.
-fn push_all(out: &mut [u8], at: usize, all: &[u64], many: usize) -> usize {
-    let mut p = at;
-    let mut i: usize = 0;
-    while i < all.len() {
-        if many <= i {
-            return p;
-        }
-        p = lines::push_next(out, p, all[i]);
-        i += 1;
-    }
-    p
-}
-
-// A byte, as a number.
-fn wide(b: u8) -> u64 {
-    b as u64
-}
-
-// Puts the first so many of some bytes as numbers, a space before each.
-fn push_part(out: &mut [u8], at: usize, bytes: &[u8], many: usize) -> usize {
-    let mut p = at;
-    let mut i: usize = 0;
-    while i < bytes.len() {
-        if many <= i {
-            return p;
-        }
-        p = lines::push_next(out, p, wide(bytes[i]));
-        i += 1;
-    }
-    p
-}
-
-// The lowest bits of a number.
-fn low_8(v: u64) -> u8 {
-    (v % 0x100) as u8
-}
-
-fn low_16(v: u64) -> u16 {
-    (v % 0x1_0000) as u16
-}
-
-fn low_32(v: u64) -> u32 {
-    (v % 0x1_0000_0000) as u32
-}
-
-// The largest number that each field of a kind may be, by its type.
-fn most(kind: u64) -> [u64; FIELDS] {
-    match kind {
-        1 => [MOST_16, MOST_32, MOST_16, MOST_32],
-        3 => [MOST_16, MOST_64, MOST_64, MOST_64],
-        4 => [MOST_32, MOST_16, MOST_8, MOST_32],
-        5 => [MOST_32, MOST_32, MOST_64, MOST_64],
-        6 => [MOST_32, MOST_8, MOST_64, MOST_64],
-        7 => [MOST_32, MOST_64, MOST_64, MOST_64],
-        _ => [MOST_64, MOST_64, MOST_64, MOST_64],
+// Puts numbers, a space before each.
+fn push_all<T: Copy + Into<u64>>(page: &mut Page, numbers: &[T]) {
+    for n in numbers {
+        page.push_next((*n).into());
     }
 }
 
-// Whether a call has an event: there is its kind, c, and each of its fields fits.
-fn has_event(call: [u64; NUMBERS]) -> bool {
-    let kind = call[3];
-    let most = most(kind);
-    if kind < 1 {
-        return false;
-    }
-    if (KINDS as u64) < kind {
-        return false;
-    }
-    if most[0] < call[4] {
-        return false;
-    }
-    if most[1] < call[5] {
-        return false;
-    }
-    if most[2] < call[6] {
-        return false;
-    }
-    call[7] <= most[3]
+fn psn(n: u64) -> Option<Psn> {
+    Some(Psn(u32::try_from(n).ok()?))
 }
 
-fn arrival(psn: u64, size: u64, flags: u64, entropy: u64) -> Arrival {
-    Arrival {
-        psn: Psn(low_32(psn)),
-        size: low_16(size),
-        flags: low_8(flags),
-        entropy: low_32(entropy),
-    }
+fn arrival(number: u64, size: u64, flags: u64, entropy: u64) -> Option<Arrival> {
+    Some(Arrival {
+        psn: psn(number)?,
+        size: u16::try_from(size).ok()?,
+        flags: u8::try_from(flags).ok()?,
+        entropy: u32::try_from(entropy).ok()?,
+    })
 }
 
-fn opening(room: u64, first: u64) -> Opening {
-    Opening {
-        room: low_16(room),
-        first: Psn(low_32(first)),
-    }
+fn opening(room: u64, first: u64) -> Option<Opening> {
+    Some(Opening {
+        room: u16::try_from(room).ok()?,
+        first: psn(first)?,
+    })
 }
 
-// The event of the sending side of a kind with these fields.
-fn sending(kind: u64, f: u64, g: u64, h: u64) -> Sending {
-    match kind {
-        3 => Sending::Send { size: low_16(f) },
-        5 => Sending::Sack {
-            cack: Psn(low_32(f)),
-            block: Block {
-                base: Psn(low_32(g)),
-                bitmap: h,
-            },
-        },
-        6 => Sending::Nack {
-            psn: Psn(low_32(f)),
-            reason: low_8(g),
-        },
-        7 => Sending::Timer {
-            psn: Psn(low_32(f)),
-        },
-        _ => Sending::Resend,
-    }
-}
-
-// The event of a call.
-fn event_of(call: [u64; NUMBERS]) -> Event {
-    let kind = call[3];
-    match kind {
-        1 => Event::Start(Start {
-            sending: opening(call[4], call[5]),
-            receiving: opening(call[6], call[7]),
+// The event of a call, where there is its kind, c, and each of its fields fits.
+fn event_of(call: [u64; NUMBERS]) -> Option<Event> {
+    let [_, _, _, kind, f, g, h, j] = call;
+    let kind = Kind::try_from(u8::try_from(kind).ok()?).ok()?;
+    Some(match kind {
+        Kind::Start => Event::Start(Start {
+            sending: opening(f, g)?,
+            receiving: opening(h, j)?,
             options: Options {},
         }),
-        2 => Event::Use(Use::Close),
-        4 => Event::Use(Use::Receives(arrival(call[4], call[5], call[6], call[7]))),
-        _ => Event::Use(Use::Sends(sending(kind, call[4], call[5], call[6]))),
-    }
+        Kind::Close => Event::Use(Use::Close),
+        Kind::Send => Event::Use(Use::Sends(Sending::Send {
+            size: u16::try_from(f).ok()?,
+        })),
+        Kind::Arrive => Event::Use(Use::Receives(arrival(f, g, h, j)?)),
+        Kind::Sack => Event::Use(Use::Sends(Sending::Sack {
+            cack: psn(f)?,
+            block: Block {
+                base: psn(g)?,
+                bitmap: h,
+            },
+        })),
+        Kind::Nack => Event::Use(Use::Sends(Sending::Nack {
+            psn: psn(f)?,
+            reason: u8::try_from(g).ok()?,
+        })),
+        Kind::Timer => Event::Use(Use::Sends(Sending::Timer { psn: psn(f)? })),
+        Kind::Resend => Event::Use(Use::Sends(Sending::Resend)),
+    })
 }
 
 // Puts an event: its kind and its fields, 0 past the last.
-fn push_event(out: &mut [u8], at: usize, event: Event) -> usize {
-    let values = kinds::values(event);
-    let p = lines::push_next(out, at, kinds::kind(event) as u64);
-    push_all(out, p, &values, FIELDS)
+fn push_event(page: &mut Page, event: Event) {
+    page.push_next(kinds::kind(event).number() as u64);
+    push_all(page, &kinds::values(event));
 }
 
-// The kind that was answered, 0 beside a refusal.
-fn kind_of(answer: Answer) -> u64 {
+// The kind that was answered. No `From`, since both types are those of `rules`.
+fn kind_of(answer: Answer) -> Kind {
     match answer {
-        Answer::Refused(_) => 0,
-        Answer::Started => 1,
-        Answer::Closed => 2,
-        Answer::Sent(_) => 3,
-        Answer::Acked(_, _) => 4,
-        Answer::Nacked(_, _) => 4,
-        Answer::Retired(_) => 5,
-        Answer::Marked(_) => 6,
-        Answer::Expired(_) => 7,
-        Answer::Resent(_) => 8,
+        Answer::Started => Kind::Start,
+        Answer::Closed => Kind::Close,
+        Answer::Sent(_) => Kind::Send,
+        Answer::Acked(_, _) | Answer::Nacked(_, _) => Kind::Arrive,
+        Answer::Retired(_) => Kind::Sack,
+        Answer::Marked(_) => Kind::Nack,
+        Answer::Expired(_) => Kind::Timer,
+        Answer::Resent(_) => Kind::Resend,
     }
 }
 
 // Puts what only the library hands out: a SACK's MPR, a NACK's reason.
-fn push_unprinted(out: &mut [u8], at: usize, answer: Answer) -> usize {
-    if let Answer::Acked(_, sack) = answer {
-        return lines::push_next(out, at, sack.mpr as u64);
-    }
-    if let Answer::Nacked(_, nack) = answer {
-        return lines::push_next(out, at, nack.reason as u64);
-    }
-    at
-}
-
-// Puts an answer: its number, the kind, the values of its line, and what only the library hands out.
-fn push_answer(out: &mut [u8], at: usize, answer: Answer) -> usize {
-    let shown = paper::line_of(answer);
-    let values = shown.values;
-    let p = lines::push_next(out, at, shown.number as u64);
-    let q = lines::push_next(out, p, kind_of(answer));
-    let r = push_all(out, q, &values, shown.many);
-    push_unprinted(out, r, answer)
-}
-
-// An event on a slot of a table as long as `lent`.
-fn on(table: [Connection; TABLE], lent: usize, slot: usize, event: Event) -> Answered
-    requires { (lent ≤ 20) × AllSound table }
-    ensures { AllSound result.table }
-{
-    let mut slots = table;
-    let answer = table::event(&mut slots[..lent], slot, event);
-    let after = slots;
-    Answered {
-        answer,
-        table: after,
+fn push_unprinted(page: &mut Page, answer: Answer) {
+    match answer {
+        Answer::Acked(_, sack) => page.push_next(sack.mpr as u64),
+        Answer::Nacked(_, nack) => page.push_next(nack.reason as u64),
+        _ => {}
     }
 }
 
-// A table as long as `lent` is emptied.
-fn emptied(table: [Connection; TABLE], lent: usize) -> [Connection; TABLE]
-    requires { (lent ≤ 20) × AllSound table }
-    ensures { AllSound result }
-{
-    let mut slots = table;
-    table::empty_all(&mut slots[..lent]);
-    let after = slots;
-    after
+// Puts a reply: its number, the kind that was answered, which is 0 beside a refusal, the values of its line, and what only the library hands out.
+fn push_reply(page: &mut Page, reply: Result<Answer, Refusal>) {
+    let shown = paper::line_of(reply);
+    page.push_next(shown.number as u64);
+    match reply {
+        Ok(answer) => {
+            page.push_next(kind_of(answer).number() as u64);
+            for v in shown.values.iter().take(shown.many) {
+                page.push_next(*v);
+            }
+            push_unprinted(page, answer);
+        }
+        Err(_) => page.push_next(0),
+    }
 }
 
 // Op 1: the event of kind c with the fields, on slot b of the first a slots.
-fn event_call(table: [Connection; TABLE], call: [u64; NUMBERS], out: &mut [u8], at: usize) -> Kept
-    requires { AllSound table }
-    ensures { AllSound result.table }
+fn event_call(table: &mut [Connection], call: [u64; NUMBERS], page: &mut Page)
+    requires { AllSound table.old }
+    ensures { AllSound table.new }
 {
     let lent = call[1] as usize;
     let slot = call[2] as usize;
-    if TABLE < lent {
-        return Kept {
-            table,
-            end: unknown(out, at),
-        };
-    }
-    if !has_event(call) {
-        return Kept {
-            table,
-            end: unknown(out, at),
-        };
-    }
-    let done = on(table, lent, slot, event_of(call));
-    let answer = done.answer;
-    let after = done.table;
-    Kept {
-        table: after,
-        end: push_answer(out, at, answer),
+    match event_of(call) {
+        Some(event) if lent <= table.len() => {
+            let reply = table::event(&mut table[..lent], slot, event);
+            push_reply(page, reply);
+        }
+        _ => unknown(page),
     }
 }
 
 // Op 2: the first a slots are emptied.
-fn empty_call(table: [Connection; TABLE], call: [u64; NUMBERS], out: &mut [u8], at: usize) -> Kept
-    requires { AllSound table }
-    ensures { AllSound result.table }
+fn empty_call(table: &mut [Connection], call: [u64; NUMBERS], page: &mut Page)
+    requires { AllSound table.old }
+    ensures { AllSound table.new }
 {
     let lent = call[1] as usize;
-    if TABLE < lent {
-        return Kept {
-            table,
-            end: unknown(out, at),
-        };
-    }
-    let after = emptied(table, lent);
-    Kept {
-        table: after,
-        end: at,
+    if lent <= table.len() {
+        table::empty_all(&mut table[..lent]);
+    } else {
+        unknown(page);
     }
 }
 
 // Puts the sizes of n packet numbers from the first on.
-fn push_sizes(out: &mut [u8], at: usize, sizes: [u16; SIZES], first: u32, n: u32) -> usize {
-    let mut p = at;
-    let mut i: u32 = 0;
-    while i < n {
-        let k = (std::num::wrapping_add_u32(first, i) % LARGEST_ROOM) as usize;
-        p = lines::push_next(out, p, sizes[k] as u64);
-        i += 1;
+fn push_sizes(page: &mut Page, sizes: &[u16; SIZES], first: u32, n: u32) {
+    for i in 0..n {
+        let k = first.wrapping_add(i) % LARGEST_ROOM;
+        page.push_next(sizes[k as usize] as u64);
     }
-    p
 }
 
-// How many words there are up to the last that has a bit.
-fn used(words: &[u64]) -> usize {
-    let mut n = words.len();
-    while 0 < n {
-        if words[n - 1] != 0 {
-            return n;
-        }
-        n -= 1;
+// The words up to the last that has a bit.
+fn used(words: &[u64]) -> &[u64] {
+    match words.iter().rposition(|w| *w != 0) {
+        Some(last) => &words[..=last],
+        None => &[],
     }
-    0
 }
 
 // Puts the words of a row up to the last that has a bit, after their number.
-fn push_words(out: &mut [u8], at: usize, words: [u64; WORDS]) -> usize {
-    let n = used(&words);
-    let p = lines::push_next(out, at, n as u64);
-    push_all(out, p, &words, n)
+fn push_words(page: &mut Page, words: &[u64]) {
+    let words = used(words);
+    page.push_next(words.len() as u64);
+    push_all(page, words);
 }
 
 // Puts a receiver: its room, the expected packet number, its count and its words.
-fn push_receiver(out: &mut [u8], at: usize, r: Receiver) -> usize {
-    let words = r.words;
-    let all = [r.room as u64, r.expected.0 as u64, r.count as u64];
-    let p = push_all(out, at, &all, 3);
-    push_words(out, p, words)
+fn push_receiver(page: &mut Page, r: &Receiver) {
+    push_all(page, &[r.head.room, r.head.expected.0, r.head.count]);
+    push_words(page, &r.words);
 }
 
 // Puts a record: both sides, and the sizes of the packet numbers outstanding.
-fn push_record(out: &mut [u8], at: usize, c: Connection) -> usize {
-    let s = c.sender;
-    let receiver = c.receiver;
-    let place = s.place;
-    let retired = s.retired;
-    let marked = s.marked;
-    let sizes = s.sizes;
-    let n = s.outstanding;
-    let all = [s.room as u64, place.0 as u64, n as u64, s.held as u64];
-    let p = push_all(out, at, &all, 4);
-    let q = push_words(out, p, retired);
-    let r = push_words(out, q, marked);
-    let t = push_receiver(out, r, receiver);
-    push_sizes(out, t, sizes, std::num::wrapping_add_u32(place.0, 1), n)
+fn push_record(page: &mut Page, c: &Connection) {
+    let s = &c.sender;
+    let head = s.head;
+    push_all(
+        page,
+        &[head.room, head.place.0, head.outstanding, head.held],
+    );
+    push_words(page, &s.retired);
+    push_words(page, &s.marked);
+    push_receiver(page, &c.receiver);
+    push_sizes(
+        page,
+        &s.sizes,
+        head.place.0.wrapping_add(1),
+        head.outstanding,
+    );
 }
 
 // Op 3: the record of slot a.
-fn record_call(
-    table: [Connection; TABLE],
-    call: [u64; NUMBERS],
-    out: &mut [u8],
-    at: usize,
-) -> usize {
-    let slot = call[1] as usize;
-    if TABLE <= slot {
-        return unknown(out, at);
+fn record_call(table: &[Connection], call: [u64; NUMBERS], page: &mut Page) {
+    match table.get(call[1] as usize) {
+        Some(c) => push_record(page, c),
+        None => unknown(page),
     }
-    push_record(out, at, table[slot])
 }
 
 // Op 4: byte a becomes b.
-fn poke_call(bytes: &mut [u8], call: [u64; NUMBERS], out: &mut [u8], at: usize) -> usize {
+fn poke_call(bytes: &mut [u8], call: [u64; NUMBERS], page: &mut Page) {
     let i = call[1] as usize;
-    let b = call[2];
-    if bytes.len() <= i {
-        return unknown(out, at);
+    match u8::try_from(call[2]) {
+        Ok(b) if i < bytes.len() => bytes[i] = b,
+        _ => unknown(page),
     }
-    if MOST_8 < b {
-        return unknown(out, at);
-    }
-    bytes[i] = low_8(b);
-    at
 }
 
 // Op 5: the first a bytes become b.
-fn fill_call(bytes: &mut [u8], call: [u64; NUMBERS], out: &mut [u8], at: usize) -> usize {
+fn fill_call(bytes: &mut [u8], call: [u64; NUMBERS], page: &mut Page) {
     let n = call[1] as usize;
-    let b = call[2];
-    if bytes.len() < n {
-        return unknown(out, at);
+    match u8::try_from(call[2]) {
+        Ok(b) if n <= bytes.len() => bytes[..n].fill(b),
+        _ => unknown(page),
     }
-    if MOST_8 < b {
-        return unknown(out, at);
-    }
-    let mut i: usize = 0;
-    while i < n {
-        bytes[i] = low_8(b);
-        i += 1;
-    }
-    at
 }
 
 // Puts the body of the record at a place of a log, after its length.
-fn push_body(out: &mut [u8], at: usize, log: &[u8], place: usize) -> usize {
+fn push_body(page: &mut Page, log: &[u8], place: usize) {
     let body = event_log::body(log, place);
-    let n = body.len();
-    let p = lines::push_next(out, at, n as u64);
-    push_part(out, p, body, n)
+    page.push_next(body.len() as u64);
+    push_all(page, body);
 }
 
 // Puts what is read at a place of a log: the number, the kind and the place after it, which are 0 where there is no record, then the slot and the
 // event of a record, and the body.
-fn push_read(out: &mut [u8], at: usize, log: &[u8], place: usize) -> usize {
+fn push_read(page: &mut Page, log: &[u8], place: usize) {
     match event_log::read(log, place) {
-        Read::Record {
-            slot,
-            event,
-            kind,
-            next,
-        } => {
-            let all = [0, kind as u64, next as u64, slot as u64];
-            let p = push_all(out, at, &all, 4);
-            let q = push_event(out, p, event);
-            push_body(out, q, log, place)
+        Ok(Some(record)) => {
+            let kind = record.kind.number();
+            push_all(
+                page,
+                &[0, kind as u64, record.next as u64, record.slot as u64],
+            );
+            push_event(page, record.event);
         }
-        Read::Nothing(number) => {
-            let all = [number as u64, 0, 0];
-            let p = push_all(out, at, &all, 3);
-            push_body(out, p, log, place)
-        }
+        Ok(None) => push_all(page, &[0u64, 0, 0]),
+        Err(refusal) => push_all(page, &[refusal.number() as u64, 0, 0]),
     }
+    push_body(page, log, place);
 }
 
 // Op 6: the record at place b of the first a bytes.
-fn read_call(bytes: &[u8], call: [u64; NUMBERS], out: &mut [u8], at: usize) -> usize {
-    let n = call[1] as usize;
+fn read_call(bytes: &[u8], call: [u64; NUMBERS], page: &mut Page) {
     let place = call[2] as usize;
-    if bytes.len() < n {
-        return unknown(out, at);
+    match bytes.get(..call[1] as usize) {
+        Some(log) => push_read(page, log, place),
+        None => unknown(page),
     }
-    push_read(out, at, &bytes[..n], place)
 }
 
 // Puts what a write gave, its number and the length, and the first bytes of the buffer after it.
-fn push_buffer(out: &mut [u8], at: usize, number: u64, length: u64, buffer: &[u8]) -> usize {
-    let p = lines::push_next(out, at, number);
-    let q = lines::push_next(out, p, length);
-    push_part(out, q, buffer, SHOWN)
+fn push_buffer(page: &mut Page, number: u64, length: u64, buffer: &[u8]) {
+    push_all(page, &[number, length]);
+    push_all(page, &buffer[..buffer.len().min(SHOWN)]);
 }
 
 // Writes an event's record.
-fn push_written(out: &mut [u8], at: usize, buffer: &mut [u8], slot: u8, event: Event) -> usize {
+fn push_written(page: &mut Page, buffer: &mut [u8], slot: u8, event: Event) {
     match event_log::write(buffer, slot, event) {
-        Written::Refused(number) => push_buffer(out, at, number as u64, 0, buffer),
-        Written::Length(n) => push_buffer(out, at, 0, n as u64, buffer),
+        Ok(length) => push_buffer(page, 0, length as u64, buffer),
+        Err(refusal) => push_buffer(page, refusal.number() as u64, 0, buffer),
     }
 }
 
 // Op 7: the record of the event of kind c with the fields and slot b is written into the first a bytes.
-fn write_call(bytes: &mut [u8], call: [u64; NUMBERS], out: &mut [u8], at: usize) -> usize {
+fn write_call(bytes: &mut [u8], call: [u64; NUMBERS], page: &mut Page) {
     let n = call[1] as usize;
-    let slot = call[2];
-    if bytes.len() < n {
-        return unknown(out, at);
+    match (u8::try_from(call[2]), event_of(call)) {
+        (Ok(slot), Some(event)) if n <= bytes.len() => {
+            push_written(page, &mut bytes[..n], slot, event)
+        }
+        _ => unknown(page),
     }
-    if MOST_8 < slot {
-        return unknown(out, at);
-    }
-    if !has_event(call) {
-        return unknown(out, at);
-    }
-    push_written(out, at, &mut bytes[..n], low_8(slot), event_of(call))
 }
 
 // An arrival at a receiver by value.
-fn push_arrived(out: &mut [u8], at: usize, r: Receiver, a: Arrival) -> usize
+fn push_arrived(page: &mut Page, r: Receiver, a: Arrival)
     requires { Sound r }
 {
-    let done = r.arrive(a);
-    let answer = done.answer;
-    let record = done.record;
-    let p = push_answer(out, at, answer);
-    push_receiver(out, p, record)
+    let out = r.arrive(a);
+    push_reply(page, out.answer);
+    push_receiver(page, &out.next);
 }
 
 // The same at a receiver's head over lent words.
-fn push_lent(out: &mut [u8], at: usize, r: Receiver, a: Arrival) -> usize
+fn push_lent(page: &mut Page, r: Receiver, a: Arrival)
     requires { SoundLent (lent_of r) }
 {
-    let expected = r.expected;
     let mut words = r.words;
-    let head = Head {
-        room: r.room,
-        expected,
-        count: r.count,
-    };
-    let done = head.arrive(&mut words, a);
-    let answer = done.answer;
-    let left = done.record;
-    let next = left.expected;
-    let p = push_answer(out, at, answer);
-    push_receiver(
-        out,
-        p,
-        Receiver {
-            room: left.room,
-            expected: next,
-            words,
-            count: left.count,
-        },
-    )
+    let mut head = r.head;
+    let reply = head.arrive(&mut words, a);
+    push_reply(page, reply);
+    push_receiver(page, &Receiver { head, words });
 }
 
-// A receiver of the least room that has just started, with this count; then an arrival, by value or over lent words.
-fn push_counted(
-    out: &mut [u8],
-    at: usize,
-    first: Psn,
-    a: Arrival,
-    count: u32,
-    lent: bool,
-) -> usize {
+// A receiver of the least room that has just started, with this count; then an arrival at it, or at its head over lent words. A flag and no function
+// of the caller's, whose premise would be longer than the two calls.
+fn push_counted(page: &mut Page, first: Psn, a: Arrival, count: u32, lent: bool) {
     let begun = Receiver::start(Opening { room: 64, first });
-    let answer = begun.answer;
-    let r = begun.record;
-    let room = r.room;
-    let expected = r.expected;
-    let words = r.words;
-    if room == 0 {
-        return push_answer(out, at, answer);
+    let mut r = begun.next;
+    if r.head.room == 0 {
+        return push_reply(page, begun.answer);
     }
-    let counted = Receiver {
-        room,
-        expected,
-        words,
-        count,
-    };
+    r.head.count = count;
     if lent {
-        return push_lent(out, at, counted, a);
+        push_lent(page, r, a);
+    } else {
+        push_arrived(page, r, a);
     }
-    push_arrived(out, at, counted, a)
 }
 
 // Ops 8 and 9: a receiver started at packet number a, its count set to b, and an arrival with size c, flags, entropy and packet number.
-fn arrive_call(call: [u64; NUMBERS], out: &mut [u8], at: usize, lent: bool) -> usize {
-    if !has_event([1, 0, 0, 4, call[6], call[3], call[4], call[5]]) {
-        return unknown(out, at);
-    }
-    if MOST_32 < call[1] {
-        return unknown(out, at);
-    }
-    if MOST_32 < call[2] {
-        return unknown(out, at);
-    }
-    let first = Psn(low_32(call[1]));
-    let a = arrival(call[6], call[3], call[4], call[5]);
-    push_counted(out, at, first, a, low_32(call[2]), lent)
-}
-
-// A call that leaves the table as it is.
-fn other_call(
-    table: [Connection; TABLE],
-    bytes: &mut [u8],
-    call: [u64; NUMBERS],
-    out: &mut [u8],
-    at: usize,
-) -> usize {
-    let op = call[0];
-    match op {
-        3 => record_call(table, call, out, at),
-        4 => poke_call(bytes, call, out, at),
-        5 => fill_call(bytes, call, out, at),
-        6 => read_call(bytes, call, out, at),
-        7 => write_call(bytes, call, out, at),
-        8 => arrive_call(call, out, at, false),
-        9 => arrive_call(call, out, at, true),
-        _ => unknown(out, at),
+fn arrive_call(call: [u64; NUMBERS], page: &mut Page, lent: bool) {
+    let [_, first, count, size, flags, entropy, number, _] = call;
+    match (
+        psn(first),
+        u32::try_from(count),
+        arrival(number, size, flags, entropy),
+    ) {
+        (Some(first), Ok(count), Some(a)) => push_counted(page, first, a, count, lent),
+        _ => unknown(page),
     }
 }
 
-// A call is answered.
-fn any_call(
-    table: [Connection; TABLE],
-    bytes: &mut [u8],
-    call: [u64; NUMBERS],
-    out: &mut [u8],
-) -> Kept
-    requires { AllSound table }
-    ensures { AllSound result.table }
+// A call is answered. Its op is a number of the input, and this is the one place that reads it.
+fn any_call(table: &mut [Connection], bytes: &mut [u8], call: [u64; NUMBERS], page: &mut Page)
+    requires { AllSound table.old }
+    ensures { AllSound table.new }
 {
     let op = call[0];
-    let at = lines::push_number(out, 0, op);
-    if op == 1 {
-        return event_call(table, call, out, at);
-    }
-    if op == 2 {
-        return empty_call(table, call, out, at);
-    }
-    Kept {
-        table,
-        end: other_call(table, bytes, call, out, at),
+    page.push_number(op);
+    match op {
+        1 => event_call(table, call, page),
+        2 => empty_call(table, call, page),
+        3 => record_call(table, call, page),
+        4 => poke_call(bytes, call, page),
+        5 => fill_call(bytes, call, page),
+        6 => read_call(bytes, call, page),
+        7 => write_call(bytes, call, page),
+        8 => arrive_call(call, page, false),
+        9 => arrive_call(call, page, true),
+        _ => unknown(page),
     }
 }
 
-// Writes the first n bytes of out, or all of it.
-fn write_first(out: &[u8], n: usize) {
-    if n <= out.len() {
-        io::write_all(1, &out[..n]);
-    } else {
-        io::write_all(1, out);
-    }
+// Writes the page.
+fn write(page: Page) {
+    let end = page.at.min(page.bytes.len());
+    io::write_all(1, &page.bytes[..end]);
 }
 
 // Call after call, until the input ends.
@@ -641,18 +393,15 @@ fn run(bytes: &mut [u8], out: &mut [u8]) {
     let none = Connection::empty();
     let mut table = [none; TABLE];
     let mut input = [0u8; CALL];
-    let mut left = CALLS;
-    while 0 < left {
+    for _ in 0..CALLS {
         let n = io::read_full(0, &mut input);
         if n < CALL {
             return;
         }
-        let kept = any_call(table, bytes, call_of(&input), out);
-        let next = kept.table;
-        table = next;
-        let end = lines::push(out, kept.end, b'\n');
-        write_first(out, end);
-        left -= 1;
+        let mut page = Page { bytes: out, at: 0 };
+        any_call(&mut table, bytes, call_of(&input), &mut page);
+        page.push(b'\n');
+        write(page);
     }
 }
 

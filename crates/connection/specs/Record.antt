@@ -1,17 +1,17 @@
 -- A connection by value: what it means, and which there are.
-use Rattle.std.specs.Prelude.{◌≡◌, ◌⊎◌}
+use Rattle.std.specs.Prelude.{◌≡◌, ◌⊎◌, Result}
 use Rattle.promise.specs.Outcome.{Outcome}
-use Rattle.promise.specs.Promise.{Meets}
-use Rattle.rules.specs.Paper.{paper}
+use Rattle.promise.specs.Promise.{Meets, Opens}
+use Rattle.rules.specs.Numbered.{number}
+use Rattle.rules.specs.Paper.{paper, Reply}
 use Rattle.rules.specs.Connection as rule
 use Rattle.rules.specs.declared.Answer.{Answer}
+use Rattle.rules.specs.declared.Answer.TheVariants as answer
+use Rattle.rules.specs.declared.Refusal.{Refusal}
 use Rattle.sender.specs.Record as sender
 use Rattle.receiving.specs.Lent as lent
 use Rattle.receiver.specs.Record as receiver
-use Rattle.sender.specs.declared.Stepped as sending
-use Rattle.receiver.specs.declared.Stepped as receiving
 use Rattle.connection.specs.declared.Connection.{Connection}
-use Rattle.connection.specs.declared.Stepped.{Stepped}
 
 unfoldable pub meaning : Connection → rule.Connection
 meaning c = record { sender = sender.meaning c.sender; receiver = receiver.meaning c.receiver }
@@ -29,13 +29,10 @@ pub record Started (c : Connection) : Type 0 where
 abbrev pub Sound : Connection → Type 0
 Sound c = (c ≡ empty) ⊎ Started c
 
--- an event on one side: the other comes back as it was
-abbrev pub sent_by : Connection → sending.Stepped → Stepped
-sent_by c out = record { answer = out.answer; «record» = record { sender = out.record; receiver = c.receiver } }
+-- an event on the record c, whose rule gives o, is answered r and leaves d
+abbrev pub Steps : Connection → Outcome Answer rule.Connection → Reply → Connection → Type 0
+Steps c o r d = Meets paper number Sound meaning c o r d
 
-abbrev pub received_by : Connection → receiving.Stepped → Stepped
-received_by c out = record { answer = out.answer; «record» = record { sender = c.sender; receiver = out.record } }
-
--- an event on the record c, whose rule gives o, is answered r
-abbrev pub Steps : Connection → Outcome Answer rule.Connection → Stepped → Type 0
-Steps c o r = Meets paper Sound meaning c o r.answer r.«record»
+-- a start, whose rule gives o, opens a record or is refused
+abbrev pub Begins : Outcome Answer rule.Connection → Result Connection Refusal → Type 0
+Begins o r = Opens paper number Sound meaning empty answer.Started o r

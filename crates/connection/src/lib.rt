@@ -1,25 +1,18 @@
 // One connection by value: a sender and a receiver that share nothing. An event touches one side, and the other comes back as it was.
 #![tactic(auto)]
 
-ghost use Rattle.std.specs.Prelude.{◌≡◌};
-ghost use Rattle.rules.specs.Connection.{close as close_of, start as start_of, step as step_of};
-ghost use Rattle.connection.specs.Record.{empty as empty_of, meaning, received_by, sent_by, Sound, Steps};
+ghost use Rattle.std.specs.Prelude.{◌≡◌, not};
+ghost use Rattle.rules.specs.Connection.{close as close_of, start as start_of, step as step_of, unused};
+ghost use Rattle.connection.specs.Record.{empty as empty_of, meaning, Begins, Sound, Steps};
 
 use receiver::Receiver;
-use rules::{Answer, Start, Use};
+use rules::{Answer, Refusal, Start, Stepped, Use};
 use sender::Sender;
 
 #[derive(Clone, Copy)]
 pub struct Connection {
     pub sender: Sender,
     pub receiver: Receiver,
-}
-
-// The answer to an event, and the record after it.
-#[derive(Clone, Copy)]
-pub struct Stepped {
-    pub answer: Answer,
-    pub record: Connection,
 }
 
 impl Connection {
@@ -33,100 +26,83 @@ impl Connection {
         }
     }
 
-    // A refusal leaves the record as it is.
-    fn refused(self, number: u8) -> Stepped
-        ensures { (result.answer ≡ Answer.Refused number) × (result.record ≡ self) }
+    // Whether it was started, and not closed since.
+    pub fn in_use(&self) -> bool
+        ensures { result ≡ not (unused (meaning self.now)) }
     {
-        Stepped {
-            answer: Answer::Refused(number),
-            record: self,
-        }
-    }
-
-    // The connection after an event on its sending side.
-    fn sent(self, out: sender::Stepped) -> Stepped
-        ensures { result ≡ sent_by self out }
-    {
-        let answer = out.answer;
-        let sender = out.record;
-        let receiver = self.receiver;
-        Stepped {
-            answer,
-            record: Connection { sender, receiver },
-        }
-    }
-
-    // The connection after an event on its receiving side.
-    fn received(self, out: receiver::Stepped) -> Stepped
-        ensures { result ≡ received_by self out }
-    {
-        let answer = out.answer;
-        let receiver = out.record;
-        let sender = self.sender;
-        Stepped {
-            answer,
-            record: Connection { sender, receiver },
-        }
+        self.sender.head.room != 0
     }
 
     // A start. Refused, it hands back the empty record.
-    pub fn start(opening: Start) -> Stepped
-        ensures { Steps empty_of (start_of opening) result }
+    pub fn start(opening: Start) -> Stepped<Connection>
+        ensures { Steps empty_of (start_of opening) result.answer result.next }
     {
-        let none = Connection::empty();
-        let sending = opening.sending;
-        let receiving = opening.receiving;
-        if !allowed::room_ok(sending.room as u32) {
-            return none.refused(4);
-        }
-        if !allowed::room_ok(receiving.room as u32) {
-            return none.refused(4);
-        }
-        let send_psn = sending.first;
-        if !allowed::psn_ok(send_psn) {
-            return none.refused(5);
-        }
-        let receive_psn = receiving.first;
-        if !allowed::psn_ok(receive_psn) {
-            return none.refused(5);
-        }
-        let sent = Sender::start(sending);
-        let received = Receiver::start(receiving);
-        let sender = sent.record;
-        let receiver = received.record;
-        Stepped {
-            answer: Answer::Started,
-            record: Connection { sender, receiver },
-        }
+        Stepped::started(Connection::opened(opening), Connection::empty())
+    }
+
+    // The record that a start opens.
+    fn opened(opening: Start) -> Result<Connection, Refusal>
+        ensures { Begins (start_of opening) result }
+    {
+        let Start {
+            sending,
+            receiving,
+            options: _,
+        } = opening;
+        Refusal::BadRoom.unless(allowed::room_ok(sending.room as u32))?;
+        Refusal::BadRoom.unless(allowed::room_ok(receiving.room as u32))?;
+        Refusal::BadPsn.unless(allowed::psn_ok(sending.first))?;
+        Refusal::BadPsn.unless(allowed::psn_ok(receiving.first))?;
+        Ok(Connection {
+            sender: Sender::start(sending).next,
+            receiver: Receiver::start(receiving).next,
+        })
     }
 
     // A close.
-    pub fn close(self) -> Stepped
+    pub fn close(self) -> Stepped<Connection>
         requires { Sound self }
-        ensures { Steps self (close_of (meaning self)) result }
+        ensures { Steps self (close_of (meaning self)) result.answer result.next }
     {
-        let sender = self.sender;
-        let room = sender.room;
-        if room == 0 {
-            return self.refused(2);
+        if !self.in_use() {
+            return Stepped {
+                answer: Err(Refusal::NotInUse),
+                next: self,
+            };
         }
         Stepped {
-            answer: Answer::Closed,
-            record: Connection::empty(),
+            answer: Ok(Answer::Closed),
+            next: Connection::empty(),
         }
     }
 
-    // A close, or an event of one side.
-    pub fn step(self, event: Use) -> Stepped
+    // A close, or an event of one side: the other comes back as it was.
+    pub fn step(self, event: Use) -> Stepped<Connection>
         requires { Sound self }
-        ensures { Steps self (step_of (meaning self) event) result }
+        ensures { Steps self (step_of (meaning self) event) result.answer result.next }
     {
-        let sender = self.sender;
-        let receiver = self.receiver;
         match event {
             Use::Close => self.close(),
-            Use::Sends(e) => self.sent(sender.step(e)),
-            Use::Receives(e) => self.received(receiver.step(e)),
+            Use::Sends(e) => {
+                let Stepped { answer, next } = self.sender.step(e);
+                Stepped {
+                    answer,
+                    next: Connection {
+                        sender: next,
+                        receiver: self.receiver,
+                    },
+                }
+            }
+            Use::Receives(e) => {
+                let Stepped { answer, next } = self.receiver.step(e);
+                Stepped {
+                    answer,
+                    next: Connection {
+                        sender: self.sender,
+                        receiver: next,
+                    },
+                }
+            }
         }
     }
 }

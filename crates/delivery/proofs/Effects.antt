@@ -4,7 +4,7 @@ use Prim.Native.Nat.{ℕ}
 use mathlib.Core.List.{List, ◌∷◌, Memᴰ}
 use Rattle.promise.specs.Outcome.{Outcome, left}
 use Rattle.rules.specs.Numbers.{psn}
-use Rattle.rules.specs.Paper.{answered}
+use Rattle.rules.specs.Paper.{Reply as Answered, answered}
 use Rattle.rules.specs.Receiving.{arrive}
 use Rattle.rules.specs.Receiving as receiving
 use Rattle.rules.specs.Sending.{send, timer, resend, step}
@@ -15,7 +15,7 @@ use Rattle.delivery.specs.Network.{sends, resends, timers, hears, arrives, then}
 use Rattle.delivery.specs.Rules.{Gives, given, rules, World, Run}
 
 -- what holds of the rule's answer and of the record that it leaves holds of what an event brings
-pub by_given : {S : Type 0} {x : S} {o : Outcome Answer S} {a : Answer} {y : S} (P : Answer → S → Type 0)
+pub by_given : {S : Type 0} {x : S} {o : Outcome Answer S} {a : Answered} {y : S} (P : Answered → S → Type 0)
     → P (answered o) (left x o) → Gives x o a y → P a y
 by_given P h given = h
 

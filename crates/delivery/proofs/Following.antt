@@ -8,7 +8,7 @@ use Rattle.rules.specs.Numbers.{turn, psn, room_ok}
 use Rattle.rules.specs.Receiver as receiver
 use Rattle.rules.specs.Receiving.{Receiving, Arrive}
 use Rattle.rules.specs.Sender as sender
-use Rattle.rules.specs.declared.Answer.{Answer}
+use Rattle.rules.specs.Paper.{Reply as Answered}
 use Rattle.rules.specs.declared.Opening.{Opening}
 use Rattle.rules.specs.declared.Sending.{Sending}
 use Rattle.rules.specs.declared.Sending.TheVariants as sending
@@ -30,7 +30,7 @@ pub record Follows {E : Type 0} (S T : Side E) : Type 1 where
   pub Kept : S.State → Type 0
   pub places : (x : S.State) → S.place x ≡ T.place (meaning x)
   pub begins : (o : Opening) (x : S.State) → room_ok o.room ≡ true → o.first.0 < turn → S.Begins o x → T.Begins o (meaning x) × Kept x
-  pub steps : (x : S.State) (e : E) (a : Answer) (y : S.State) → Kept x → S.Steps x e a y → T.Steps (meaning x) e a (meaning y) × Kept y
+  pub steps : (x : S.State) (e : E) (a : Answered) (y : S.State) → Kept x → S.Steps x e a y → T.Steps (meaning x) e a (meaning y) × Kept y
   -- what else happens is nothing to T
   pub beside : (x y : S.State) → Kept x → S.Beside x y → (meaning y ≡ meaning x) × Kept y
 
@@ -91,11 +91,11 @@ module _ {n m : Sides} (F : Following n m) where
     unfolding with_sender meant
     sender_meant = rw (← F.sender.places w.sending, ← F.sender.places x)
 
-    send_meant : (z : ℕ) (a : Answer) → on_send m (through w) z a (F.sender.meaning x) ≡ through (on_send n w z a x)
+    send_meant : (z : ℕ) (a : Answered) → on_send m (through w) z a (F.sender.meaning x) ≡ through (on_send n w z a x)
     unfolding on_send meant
     send_meant z a = put_meant (with_sender n w x) _ (z ∷ w.sent) _ _ (message a) sender_meant (λ p. refl)
 
-    resend_meant : (a : Answer) → on_resend m (through w) a (F.sender.meaning x) ≡ through (on_resend n w a x)
+    resend_meant : (a : Answered) → on_resend m (through w) a (F.sender.meaning x) ≡ through (on_resend n w a x)
     unfolding on_resend again meant
     resend_meant a = put_meant (with_sender n w x) _ w.sent (again n w) _ (message a) sender_meant
         (λ p. rw (← F.sender.places w.sending))
@@ -112,7 +112,7 @@ module _ {n m : Sides} (F : Following n m) where
     unfolding with_receiver meant
     receiver_meant = rw (← F.receiver.places w.receiving, ← F.receiver.places r)
 
-    arrive_meant : (p : Packet) (f : Fate) (a : Answer) → on_arrive m (through w) p f a (F.receiver.meaning r) ≡ through (on_arrive n w p f a r)
+    arrive_meant : (p : Packet) (f : Fate) (a : Answered) → on_arrive m (through w) p f a (F.receiver.meaning r) ≡ through (on_arrive n w p f a r)
     unfolding on_arrive
     arrive_meant p f a = reply_meant (with_receiver n w r) _ p.number _ (message a) receiver_meant
 
@@ -132,12 +132,12 @@ module _ {n m : Sides} (F : Following n m) where
   unfolding with_receiver
   with_receiver_kept w r K k = record { of_sender = K.of_sender; of_receiver = k }
 
-  sender_steps : (w : Worlds n) (e : Sending) (a : Answer) (x : n.sender.State) → Kept w → n.sender.Steps w.sending e a x
+  sender_steps : (w : Worlds n) (e : Sending) (a : Answered) (x : n.sender.State) → Kept w → n.sender.Steps w.sending e a x
       → m.sender.Steps (through w).sending e a (F.sender.meaning x) × Kept (with_sender n w x)
   unfolding meant
   sender_steps w e a x K g = let h = F.sender.steps w.sending e a x K.of_sender g in (h.0, with_sender_kept w x K h.1)
 
-  receiver_steps : (w : Worlds n) (e : Receiving) (a : Answer) (r : n.receiver.State) → Kept w → n.receiver.Steps w.receiving e a r
+  receiver_steps : (w : Worlds n) (e : Receiving) (a : Answered) (r : n.receiver.State) → Kept w → n.receiver.Steps w.receiving e a r
       → m.receiver.Steps (through w).receiving e a (F.receiver.meaning r) × Kept (with_receiver n w r)
   unfolding meant
   receiver_steps w e a r K g = let h = F.receiver.steps w.receiving e a r K.of_receiver g in (h.0, with_receiver_kept w r K h.1)
@@ -151,31 +151,31 @@ module _ {n m : Sides} (F : Following n m) where
     goes_on : (u : Worlds m) (t : Worlds n) → u ≡ through t → Run m (through v) u → Kept t → Followed v t
     goes_on u t e r K = record { run = subst (λ (y : Worlds m). Run m (through v) y) e r; kept = K }
 
-    then_sends : (z : ℕ) (a : Answer) (x : n.sender.State) → n.sender.Steps w.sending (sending.Send z) a x → Followed v (on_send n w z a x)
+    then_sends : (z : ℕ) (a : Answered) (x : n.sender.State) → n.sender.Steps w.sending (sending.Send z) a x → Followed v (on_send n w z a x)
     unfolding on_send
     then_sends z a x g =
         let h = sender_steps w (sending.Send z) a x R.kept g in
         goes_on _ _ (send_meant w x z a) (then R.run (sends z a _ h.0)) (put_kept (with_sender n w x) _ _ (message a) h.1)
 
-    then_resends : (a : Answer) (x : n.sender.State) → n.sender.Steps w.sending sending.Resend a x → Followed v (on_resend n w a x)
+    then_resends : (a : Answered) (x : n.sender.State) → n.sender.Steps w.sending sending.Resend a x → Followed v (on_resend n w a x)
     unfolding on_resend
     then_resends a x g =
         let h = sender_steps w sending.Resend a x R.kept g in
         goes_on _ _ (resend_meant w x a) (then R.run (resends a _ h.0)) (put_kept (with_sender n w x) _ _ (message a) h.1)
 
-    then_timers : (p : ℕ) (a : Answer) (x : n.sender.State) → n.sender.Steps w.sending (sending.Timer (psn p)) a x → Followed v (with_sender n w x)
+    then_timers : (p : ℕ) (a : Answered) (x : n.sender.State) → n.sender.Steps w.sending (sending.Timer (psn p)) a x → Followed v (with_sender n w x)
     then_timers p a x g =
         let h = sender_steps w (sending.Timer (psn p)) a x R.kept g in
         goes_on _ _ (sender_meant w x) (then R.run (timers p a _ h.0)) h.1
 
-    then_hears : (k : Note) → Memᴰ k w.notes → Readable w.low k k.reply → (a : Answer) (x : n.sender.State)
+    then_hears : (k : Note) → Memᴰ k w.notes → Readable w.low k k.reply → (a : Answered) (x : n.sender.State)
         → n.sender.Steps w.sending (hearing k.reply) a x → Followed v (with_sender n w x)
     unfolding meant
     then_hears k there near a x g =
         let h = sender_steps w (hearing k.reply) a x R.kept g in
         goes_on _ _ (sender_meant w x) (then R.run (hears k there near a _ h.0)) h.1
 
-    then_arrives : (p : Packet) → Memᴰ p w.wire → Near p.number w.at → (f : Fate) (a : Answer) (r : n.receiver.State)
+    then_arrives : (p : Packet) → Memᴰ p w.wire → Near p.number w.at → (f : Fate) (a : Answered) (r : n.receiver.State)
         → n.receiver.Steps w.receiving (Arrive (arrival p f)) a r → Followed v (on_arrive n w p f a r)
     unfolding meant on_arrive
     then_arrives p there near f a r g =

@@ -10,13 +10,15 @@ use lib.Dec.{leb}
 use lib.ListN.{length, get_or}
 use borrow.Author.Tests.{leb-true}
 use Rattle.promise.specs.Outcome.{Outcome}
+use Rattle.promise.specs.Promise.{told}
 use Rattle.rules.specs.Numbers.{distance, trimmed, trimmed_last_hop, no_buffer}
+use Rattle.rules.specs.Numbered.{number, refusal}
 use Rattle.rules.specs.Receiver.{room, judge, known, beyond, verdict}
 use Rattle.rules.specs.Sender.{Sender, index}
 use Rattle.rules.specs.Retire.{report, acknowledged}
 use Rattle.rules.specs.Marks.{markable, mark, nacked}
 use Rattle.rules.specs.Sending.{sack_refusals, sack, nack_refusals, nack, step}
-use Rattle.rules.specs.Paper.{paper, answered}
+use Rattle.rules.specs.Paper.{paper, Reply as Answered, reply_line, answered}
 use Rattle.rules.specs.declared.Answer.{Answer}
 use Rattle.rules.specs.declared.Verdict.TheVariants.{Beyond}
 use Rattle.delivery.specs.Wire.{Reply, Acks, Nacks, hearing, Note, arrival, Readable}
@@ -60,7 +62,7 @@ never_refused s w run n m R = let I = invariant run in taken I n n.reply (I.told
 
 -- ---- no reply is answered 17: a SACK does not contradict itself, and nothing else is
 abbrev Not17 : Outcome Answer Sender → Type 0
-Not17 o = (paper (answered o)).number ≢ 17
+Not17 o = (reply_line (answered o)).number ≢ 17
 
 either_not : (b : Bool) (o q : Outcome Answer Sender) → Not17 o → Not17 q → Not17 (cond b o q)
 either_not true o q h k = h
@@ -68,7 +70,7 @@ either_not false o q h k = k
 
 heard : {s : Start} {w : World} → Inv s w → (x : Sender) (n : Note) (q : Reply) → Told s (among w.accepted) (length w.sent) n q
     → Not17 (step x (hearing q))
-unfolding Told step hearing sack sack_refusals acknowledged report nack nack_refusals nacked mark answered paper Each
+unfolding Told step hearing sack sack_refusals acknowledged report nack nack_refusals nacked mark answered told number refusal paper Each
 heard I x n (Acks b k) T =
     through_each Not17 (sack_refusals x k.cack k.block) _
     (λ _ e. omega arith, (λ _ e. omega arith, (λ _ e. omega arith, (λ c. absurd (false≢true (sym T.tells.consistent ∙ c)), (λ _ e. omega arith, tt)))))
@@ -80,7 +82,7 @@ heard I x n (Nacks k) T =
     (either_not (get_or (map markable x.entries) (index x k.psn.0) false) _ _ (λ e. omega arith) (λ e. omega arith)) (λ e. omega arith))
 
 pub never_contradicts : NeverContradicts
-unfolding paper
+unfolding told number
 never_contradicts s w run m there a x given e =
     let I = invariant run in
-    heard I w.sending m m.reply (I.told m there) (ap (λ (a : Answer). (paper a).number) e)
+    heard I w.sending m m.reply (I.told m there) (ap (λ (r : Answered). (reply_line r).number) e)

@@ -18,7 +18,7 @@ use Rattle.rules.specs.Receiver.{Receiver}
 use Rattle.rules.specs.Sender.{Entry, Sender, outstanding, nth, with_entries, sent}
 use Rattle.rules.specs.Retire.{is_retired, retired, retire, named, up_to, has_bit, after_sack}
 use Rattle.rules.specs.Marks.{nearest, resent}
-use Rattle.rules.specs.Sending.{send_refusals, send, sack, resend_refusals, resend, step}
+use Rattle.rules.specs.Sending.{send_refusals, send, resend_refusals, resend, step}
 use Rattle.rules.specs.declared.Answer.{Answer}
 use Rattle.rules.specs.declared.Sack.{Sack}
 use Rattle.delivery.specs.Wire.{Packet, Reply, Acks, Nacks, hearing, Message, Silent, Goes, Replies, message, Note, base_number, Near, Readable}

@@ -5,10 +5,10 @@ use Rattle.std.specs.Prelude.{◌≡◌, true, cond, ℕ, ◌+◌, ◌≤◌, �
 use mathlib.Core.List.{List, [], ◌∷◌, Memᴰ}
 use Rattle.rules.specs.Numbers.{turn, after, distance, psn, room_ok}
 use Rattle.rules.specs.Receiving.{Receiving, Arrive}
+use Rattle.rules.specs.Paper.{Reply as Answered}
 use Rattle.rules.specs.declared.Opening.{Opening}
 use Rattle.rules.specs.declared.Sending.{Sending}
 use Rattle.rules.specs.declared.Sending.TheVariants as sending
-use Rattle.rules.specs.declared.Answer.{Answer}
 use Rattle.delivery.specs.Wire.{Packet, Fate, arrival, Reply, Acks, Nacks, hearing, Message, Silent, Goes, Replies, message, Note, Near, Readable}
 
 -- how the two sides were started: "at one packet number", "the sender's room no larger than the receiver's"
@@ -31,7 +31,7 @@ pub record Side (E : Type 0) : Type 1 where
   pub State : Type 0
   pub place : State → ℕ
   pub Begins : Opening → State → Type 0
-  pub Steps : State → E → Answer → State → Type 0
+  pub Steps : State → E → Answered → State → Type 0
   pub Beside : State → State → Type 0
 
 pub record Sides : Type 1 where
@@ -138,7 +138,7 @@ module _ (n : Sides) where
     accepted = w.accepted;
   }
 
-  unfoldable pub on_send : Worlds → ℕ → Answer → n.sender.State → Worlds
+  unfoldable pub on_send : Worlds → ℕ → Answered → n.sender.State → Worlds
   on_send w z a x =
       put (with_sender w x) (z ∷ w.sent) (λ p. record { number = length w.sent; psn = p; size = z }) (message a)
 
@@ -147,21 +147,21 @@ module _ (n : Sides) where
       let i = w.low + distance (after (n.sender.place w.sending) 1) p in
       record { number = i; psn = p; size = size_of w.sent i }
 
-  unfoldable pub on_resend : Worlds → Answer → n.sender.State → Worlds
+  unfoldable pub on_resend : Worlds → Answered → n.sender.State → Worlds
   on_resend w a x = put (with_sender w x) w.sent (again w) (message a)
 
-  unfoldable pub on_arrive : Worlds → Packet → Fate → Answer → n.receiver.State → Worlds
+  unfoldable pub on_arrive : Worlds → Packet → Fate → Answered → n.receiver.State → Worlds
   on_arrive w p f a r = reply (with_receiver w r) p.number (arrival p f).size (message a)
 
 -- one event. Loss is never being read.
 pub data Next (n : Sides) (w : Worlds n) : Worlds n → Type 0 where
-  sends : (z : ℕ) (a : Answer) (x : n.sender.State) → n.sender.Steps w.sending (sending.Send z) a x → Next n w (on_send n w z a x)
-  resends : (a : Answer) (x : n.sender.State) → n.sender.Steps w.sending sending.Resend a x → Next n w (on_resend n w a x)
-  timers : (p : ℕ) (a : Answer) (x : n.sender.State)
+  sends : (z : ℕ) (a : Answered) (x : n.sender.State) → n.sender.Steps w.sending (sending.Send z) a x → Next n w (on_send n w z a x)
+  resends : (a : Answered) (x : n.sender.State) → n.sender.Steps w.sending sending.Resend a x → Next n w (on_resend n w a x)
+  timers : (p : ℕ) (a : Answered) (x : n.sender.State)
       → n.sender.Steps w.sending (sending.Timer (psn p)) a x → Next n w (with_sender n w x)
-  hears : (m : Note) → Memᴰ m w.notes → Readable w.low m m.reply → (a : Answer) (x : n.sender.State)
+  hears : (m : Note) → Memᴰ m w.notes → Readable w.low m m.reply → (a : Answered) (x : n.sender.State)
       → n.sender.Steps w.sending (hearing m.reply) a x → Next n w (with_sender n w x)
-  arrives : (p : Packet) → Memᴰ p w.wire → Near p.number w.at → (f : Fate) (a : Answer) (r : n.receiver.State)
+  arrives : (p : Packet) → Memᴰ p w.wire → Near p.number w.at → (f : Fate) (a : Answered) (r : n.receiver.State)
       → n.receiver.Steps w.receiving (Arrive (arrival p f)) a r → Next n w (on_arrive n w p f a r)
   -- anything else around either side
   beside_sender : (x : n.sender.State) → n.sender.Beside w.sending x → Next n w (with_sender n w x)

@@ -1,9 +1,9 @@
 -- Demand 3, what is promised of every world that a run reaches from its start.
-use Rattle.std.specs.Prelude.{◌≡◌, Bool, true, false, cond, ◌||◌, ◌≢◌, ℕ, ◌+◌, ◌%◌, ◌^◌, ◌<◌, eqb, length, get_or}
+use Rattle.std.specs.Prelude.{◌≡◌, Bool, true, false, cond, ◌||◌, ◌≢◌, ℕ, ◌+◌, ◌%◌, ◌^◌, ◌<◌, eqb, length, get_or, Err}
 use mathlib.Core.List.{List, [], ◌∷◌, map, Memᴰ}
 use Rattle.rules.specs.Numbers.{after, before, psn}
 use Rattle.promise.specs.Outcome.{left}
-use Rattle.rules.specs.Paper.{answered}
+use Rattle.rules.specs.Paper.{Reply as Answered, answered}
 use Rattle.rules.specs.Receiver.{Receiver}
 use Rattle.rules.specs.Receiver as receiver
 use Rattle.rules.specs.Receiving.{arrive}
@@ -12,8 +12,7 @@ use Rattle.rules.specs.Sender as sender
 use Rattle.rules.specs.Sending.{send, step}
 use Rattle.rules.specs.Retire.{is_retired}
 use Rattle.rules.specs.declared.Arrival.{Arrival}
-use Rattle.rules.specs.declared.Answer.{Answer}
-use Rattle.rules.specs.declared.Answer.TheVariants as answer
+use Rattle.rules.specs.declared.Refusal.TheVariants.{Contradiction}
 use Rattle.delivery.specs.Network.{Start, opening, Sides, Worlds, meant}
 use Rattle.delivery.specs.Network as network
 use Rattle.delivery.specs.Wire.{Reply, Acks, Nacks, hearing, Message, Silent, Goes, Replies, message, Note}
@@ -98,11 +97,12 @@ pub record Promise (s : Start) (w : World) : Type 0 where
 abbrev pub Delivers : Type 0
 Delivers = (s : Start) (w : World) → Run (begin s) w → Promise s w
 
--- ---- 02, No. 3: "no reply of its runs is answered 17", whenever the sender hears it and wherever its numbers lie
+-- ---- 02, No. 3: "no reply of its runs is answered 17", the refusal of a contradiction, whenever the sender hears it and wherever its numbers
+-- lie
 abbrev pub Consistent : (n : Sides) → Worlds n → Type 0
 Consistent n w =
-    (m : Note) → Memᴰ m w.notes → (a : Answer) (x : n.sender.State) → n.sender.Steps w.sending (hearing m.reply) a x
-    → a ≢ answer.Refused 17
+    (m : Note) → Memᴰ m w.notes → (a : Answered) (x : n.sender.State) → n.sender.Steps w.sending (hearing m.reply) a x
+    → a ≢ Err Contradiction
 
 -- ---- the same of any two sides, whose records mean the rules': their world is one of the rules' runs, and so the promise is kept; and
 -- their own answer to a reply of the run is never 17

@@ -1,7 +1,7 @@
 -- The rules' own two sides: an event brings their answer and leaves their next record, and nothing else happens.
 use Rattle.std.specs.Prelude.{◌≡◌}
 use Rattle.promise.specs.Outcome.{Outcome, left}
-use Rattle.rules.specs.Paper.{answered}
+use Rattle.rules.specs.Paper.{Reply as Answered, answered}
 use Rattle.rules.specs.Receiver.{Receiver}
 use Rattle.rules.specs.Receiver as receiver
 use Rattle.rules.specs.Receiving as receiving
@@ -13,7 +13,7 @@ use Rattle.delivery.specs.Network.{Start, Sides, Worlds}
 use Rattle.delivery.specs.Network as network
 
 -- an event on x, whose rule gives o
-pub data Gives {S : Type 0} (x : S) (o : Outcome Answer S) : Answer → S → Type 0 where
+pub data Gives {S : Type 0} (x : S) (o : Outcome Answer S) : Answered → S → Type 0 where
   given : Gives x o (answered o) (left x o)
 
 abbrev pub rules : Sides

@@ -1,7 +1,8 @@
 -- Demand 3, what is on the wire: packets with what may befall them, replies with the numbers that they name, and what an answer puts there.
-use Rattle.std.specs.Prelude.{◌≡◌, Bool, true, false, cond, ◌||◌, ℕ, ◌+◌, ◌<◌}
+use Rattle.std.specs.Prelude.{◌≡◌, Bool, true, false, cond, ◌||◌, ℕ, ◌+◌, ◌<◌, Ok, Err}
 use Rattle.word.specs.Word.{bit_at}
 use Rattle.rules.specs.Numbers.{half, after, distance, psn, trimmed, trimmed_last_hop}
+use Rattle.rules.specs.Paper.{Reply as Answered}
 use Rattle.rules.specs.declared.Sending.{Sending}
 use Rattle.rules.specs.declared.Sending.TheVariants as sending
 use Rattle.rules.specs.declared.Arrival.{Arrival}
@@ -9,7 +10,6 @@ use Rattle.rules.specs.declared.Sack.{Sack}
 use Rattle.rules.specs.declared.Nack.{Nack}
 use Rattle.rules.specs.declared.Verdict.{Verdict}
 use Rattle.rules.specs.declared.Verdict.TheVariants.{Fresh, Known, Beyond, NoBuffer, Trim, TrimLastHop}
-use Rattle.rules.specs.declared.Answer.{Answer}
 use Rattle.rules.specs.declared.Answer.TheVariants as answer
 
 -- ---- packets
@@ -57,17 +57,17 @@ accepts NoBuffer = false
 accepts Trim = false
 accepts TrimLastHop = false
 
-unfoldable pub message : Answer → Message
-message (answer.Refused n) = Silent
-message answer.Started = Silent
-message answer.Closed = Silent
-message (answer.Sent p) = Goes p.0
-message (answer.Acked v k) = Replies (Acks (accepts v) k)
-message (answer.Nacked v k) = Replies (Nacks k)
-message (answer.Retired k) = Silent
-message (answer.Marked n) = Silent
-message (answer.Expired n) = Silent
-message (answer.Resent p) = Goes p.0
+unfoldable pub message : Answered → Message
+message (Err e) = Silent
+message (Ok answer.Started) = Silent
+message (Ok answer.Closed) = Silent
+message (Ok (answer.Sent p)) = Goes p.0
+message (Ok (answer.Acked v k)) = Replies (Acks (accepts v) k)
+message (Ok (answer.Nacked v k)) = Replies (Nacks k)
+message (Ok (answer.Retired k)) = Silent
+message (Ok (answer.Marked n)) = Silent
+message (Ok (answer.Expired n)) = Silent
+message (Ok (answer.Resent p)) = Goes p.0
 
 -- a reply on the wire, with the numbers of the receiver's expected PSN when it was made and of the packet that it answers, and the size
 -- that this packet came with

@@ -5,16 +5,13 @@ use mathlib.Core.Logic.{◌≢◌}
 use Prim.Native.Nat.{ℕ}
 use lib.ListN.{length}
 use Rattle.promise.specs.Line.{Line}
-use Rattle.rules.specs.Paper.{paper, written_line}
+use Rattle.std.specs.Prelude.{Some, Ok}
+use Rattle.rules.specs.Paper.{Reply, reply_line, Wrote, wrote_line}
 use Rattle.rules.specs.Log.{read, write}
-use Rattle.rules.specs.declared.Answer.{Answer}
 use Rattle.rules.specs.declared.Event.{Event}
-use Rattle.rules.specs.declared.Read.TheVariants.{Record}
-use Rattle.rules.specs.declared.Written.{Written}
-use Rattle.rules.specs.declared.Written.TheVariants.{Length}
 use Rattle.rules.proofs.Numbered.{event_splits, number_first, numbered_refuses, read_first, write_first, refused_written}
 use Rattle.rules.proofs.Settled.{answer_is_rule}
-use Rattle.rules.proofs.Apart.{reads_apart, writes_apart}
+use Rattle.rules.proofs.Apart.{found_is_rule, wrote_is_rule}
 use Rattle.rules.proofs.Starred.{starred}
 use Rattle.connection.specs.declared.Connection.{Connection}
 use Rattle.table.specs.Slots.{On, meaning}
@@ -34,13 +31,13 @@ use Rattle.demands.specs.Demands.{Demand1, Demand2, Demand3}
 abbrev number : Line → ℕ
 number l = l.number
 
-event_keeps : {t : List Connection} {slot : ℕ} {e : Event} {a : Answer} {u : List Connection} → On t slot e a u → (paper a).number ≢ 0 → u ≡ t
+event_keeps : {t : List Connection} {slot : ℕ} {e : Event} {r : Reply} {u : List Connection} → On t slot e r u → (reply_line r).number ≢ 0 → u ≡ t
 event_keeps {t} {slot} {e} m h =
     let refused = numbered_refuses (event_splits (meaning t) slot e) (λ z. h (ap number m.meets.answer_is ∙ z)) in
     m.meets.untouched refused.0 refused.1
 
-write_keeps : {slot : ℕ} {e : Event} {before : List ℕ} {r : Written} {after : List ℕ} → Writes slot e before r after
-    → (written_line r).number ≢ 0 → after ≡ before
+write_keeps : {slot : ℕ} {e : Event} {before : List ℕ} {r : Wrote} {after : List ℕ} → Writes slot e before r after
+    → (wrote_line r).number ≢ 0 → after ≡ before
 write_keeps {slot} {e} {before} m h =
     m.bytes_are ∙ refused_written slot e before (write e (length before)) (λ z. h (ap number m.answer_is ∙ z))
 
@@ -59,13 +56,13 @@ demand_2 = record {
   event_answers = λ m. (answer_is_rule m.meets, m.meets.record_is);
   elsewhere = λ m. m.elsewhere;
   empties = empties;
-  reads = λ log place x h. reads_apart x (read log place) h;
-  writes = λ {slot} {e} {before} {r} m. (writes_apart r (write e (length before)) m.answer_is, m.bytes_are);
+  reads = λ log place x h. found_is_rule (read log place) x h;
+  writes = λ {slot} {e} {before} {r} m. (wrote_is_rule (write e (length before)) r m.answer_is, m.bytes_are);
   prints = writes_replay;
   bench = starred;
-  written_read = λ {slot} {e} {before} {after} {n} x w l m h. written_read slot e before after (Length n) n x m refl w l h;
-  read_written = λ log place slot e kind next {before} {r} {after} b h l m.
-      read_written log place slot e kind next b (Record slot e kind next) before after r h refl m l;
+  written_read = λ {slot} {e} {before} {after} {n} x w l m h. written_read slot e before after (Ok n) n x m refl w l h;
+  read_written = λ log place x {before} {r} {after} b h l m.
+      read_written log place x.slot x.event x.kind x.next b (Ok (Some x)) before after r h refl m l;
 }
 
 pub demand_3 : Demand3

@@ -1,4 +1,4 @@
--- Bits taken out of a number and put into one: two neighbours are taken as one, and put as one. Assumes nothing.
+-- Bits taken out of a number and put into one: two neighbours are put as one. Assumes nothing.
 use mathlib.Core.Path.{◌≡◌, sym, ap, ap₂, ◌∙◌}
 use Prim.Native.Nat.{ℕ, ◌+◌, ◌-◌, ◌*◌, ◌/◌, ◌%◌, ◌^◌, ◌≤◌, ◌<◌}
 use native.Mathlib.Nat.{add-zero, add_comm, mod-one, mod-lt, mod-eq_of_lt, div-eq_of_lt, mul_assoc, mul-add-div_right, mul-add-mod_self_right}
@@ -18,18 +18,6 @@ above : (t w r h : ℕ) → t + w ≤ r → h * 2 ^ r ≡ h * 2 ^ (r - (t + w)) 
 above t w r h l = ap (λ (x : ℕ). h * x) (parts t w r l) ∙ omega arith
 
 -- ---- taking
-pub cut_none : (t n : ℕ) → cut t 0 n ≡ 0
-unfolding cut
-cut_none t n = mod-one (n / 2 ^ t)
-
-pub cut_lt : (t w n : ℕ) → cut t w n < 2 ^ w
-unfolding cut
-cut_lt t w n = mod-lt (n / 2 ^ t) (pow_pos w)
-
-pub cut_more : (t a b n : ℕ) → cut t (a + b) n ≡ cut (t + b) a n * 2 ^ b + cut t b n
-unfolding cut
-cut_more t a b n = mod-pow-add (n / 2 ^ t) a b ∙ ap (λ (x : ℕ). x % 2 ^ a * 2 ^ b + n / 2 ^ t % 2 ^ b) (shr-shr n t b)
-
 -- of what stands above the lowest bits
 pub cut_above : (s t w n : ℕ) → cut t w (n / 2 ^ s) ≡ cut (s + t) w n
 unfolding cut

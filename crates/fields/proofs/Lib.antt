@@ -2,7 +2,6 @@
 pub mod Spelling
 pub mod Cuts
 pub mod OneByte
-pub mod Turns
 pub mod Joining
 pub mod RoundTrip
 pub mod Layouts

@@ -35,6 +35,16 @@ module _ (l : List ℕ) (k : ℕ) (b : Bytes l) where
   pub number_drop : number (drop k l) ≡ number l % 2 ^ (8 * (length l - k))
   number_drop = sym (ap (λ (n : ℕ). n % 2 ^ (8 * (length l - k))) (number_parts l k) ∙ low (number (take k l)) (8 * (length l - k)) drop_lt)
 
+-- bits of some of the bytes
+pub window_cut : (l : List ℕ) (first last t w : ℕ) → Bytes l → first ≤ last → last ≤ length l → t + w ≤ 8 * (last - first)
+    → cut t w (number (take (last - first) (drop first l))) ≡ cut (8 * (length l - last) + t) w (number l)
+window_cut l first last t w b f e h =
+    let s = 8 * (length l - last) in
+    let place : 8 * (length (drop first l) - (last - first)) ≡ s = omega (arith, length-drop first l) in
+    ap (cut t w) (number_take (drop first l) (last - first) (bytes_drop first l b) ∙ ap (λ (n : ℕ). number (drop first l) / 2 ^ n) place)
+    ∙ cut_above s t w (number (drop first l))
+    ∙ sym (ap (cut (s + t) w) (number_parts l first) ∙ cut_under (s + t) w (8 * (length l - first)) (number (take first l)) (number (drop first l)) (omega arith))
+
 -- ---- one byte
 number_last : (l : List ℕ) (b : ℕ) → number (l ++ b ∷ []) ≡ number l * 2 ^ 8 + b
 unfolding number
@@ -43,11 +53,6 @@ number_last l b = number_append l (b ∷ []) ∙ omega arith
 module _ (l : List ℕ) (k below many : ℕ) (b : Bytes l) (h : k < length l) (small : below + many ≤ 8) where
   upto : number l / 2 ^ (8 * (length l - suc k)) ≡ number (take k l) * 2 ^ 8 + get_or l k 0
   upto = sym (number_take l (suc k) b) ∙ ap number (take-suc l k 0 h) ∙ number_last (take k l) (get_or l k 0)
-
-  pub byte_cut : cut (8 * (length l - suc k) + below) many (number l) ≡ cut below many (get_or l k 0)
-  byte_cut =
-      sym (cut_above (8 * (length l - suc k)) below many (number l)) ∙ ap (cut below many) upto
-      ∙ cut_under below many 8 (number (take k l)) (get_or l k 0) small
 
   pub byte_placed : (v : ℕ) → number (set l k (placed below many v (get_or l k 0))) ≡ placed (8 * (length l - suc k) + below) many v (number l)
   byte_placed v =

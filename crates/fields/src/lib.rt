@@ -11,20 +11,8 @@ pub fn size(widths: &[u8]) -> usize
     requires { Layout widths.now }
     ensures { result ≡ size_of widths.now }
 {
-    let mut bits: usize = 0;
-    let mut i: usize = 0;
-    while i < widths.len() {
-        bits += widths[i] as usize;
-        i += 1;
-    }
+    let bits: usize = widths.iter().map(|width| usize::from(*width)).sum();
     bits / 8
-}
-
-// A byte, as a number with room for a field.
-fn wide(b: u8) -> u64
-    ensures { result ≡ b }
-{
-    b as u64
 }
 
 // The lowest bits of v, so many.
@@ -35,31 +23,19 @@ fn low(v: u64, many: usize) -> u64
     v & ((1u64 << many) - 1)
 }
 
-// How many bits from at on, and before end, lie in one byte.
-fn step(at: usize, end: usize) -> usize
-    requires { at < end }
-    ensures { result ≡ min (8 - at % 8) (end - at) }
-{
-    let here = 8 - at % 8;
-    let left = end - at;
-    if left < here { left } else { here }
-}
-
 // The number that width bits make, from bit from on. Bit 0 is the highest of the first byte.
 fn field(bytes: &[u8], from: usize, width: usize) -> u64
     requires { InBytes from width (length bytes.now) }
     ensures { result ≡ cut (8 * length bytes.now - (from + width)) width (number bytes.now) }
 {
     let end = from + width;
-    let mut v: u64 = 0;
-    let mut at = from;
-    while at < end {
-        let many = step(at, end);
-        let below = 8 - at % 8 - many;
-        v = (v << many) + low(wide(bytes[at / 8]) >> below, many);
-        at += many;
-    }
-    v
+    // The bytes that the field lies in are nine at most, and make one number.
+    let last = end.div_ceil(8);
+    let number = bytes[from / 8..last]
+        .iter()
+        .fold(0u128, |number, byte| (number << 8) | u128::from(*byte));
+    let below = 8 * last - end;
+    ((number >> below) & ((1u128 << width) - 1)) as u64
 }
 
 // The values of the fields that the bytes begin with.
@@ -67,13 +43,12 @@ pub fn read(bytes: &[u8], widths: &[u8], values: &mut [u64])
     requires { Laid widths.now (length bytes.now) (length values.old) }
     ensures { values.new ≡ decode widths.now bytes.now }
 {
-    let mut at: usize = 0;
-    let mut i: usize = 0;
-    while i < widths.len() {
-        let width = widths[i] as usize;
+    // By index: of values written through a zip of their iter_mut a proof knows the length alone.
+    let mut at = 0;
+    for (i, width) in widths.iter().enumerate() {
+        let width = usize::from(*width);
         values[i] = field(bytes, at, width);
         at += width;
-        i += 1;
     }
 }
 
@@ -82,7 +57,7 @@ fn over(byte: u8, below: usize, many: usize, v: u64) -> u8
     requires { below + many ≤ 8 }
     ensures { result ≡ placed below many v byte }
 {
-    let old = wide(byte);
+    let old = u64::from(byte);
     let above = old >> (below + many);
     ((((above << many) + low(v, many)) << below) + low(old, below)) as u8
 }
@@ -92,10 +67,11 @@ fn put(bytes: &mut [u8], from: usize, width: usize, v: u64)
     requires { InBytes from width (length bytes.old) }
     ensures { Puts from width v bytes.old bytes.new }
 {
+    // A loop: each step puts the bits that lie in one byte, 1 to 8, and no iterator has such steps.
     let end = from + width;
     let mut at = from;
     while at < end {
-        let many = step(at, end);
+        let many = (8 - at % 8).min(end - at);
         let below = 8 - at % 8 - many;
         let i = at / 8;
         bytes[i] = over(bytes[i], below, many, v >> (end - at - many));
@@ -108,12 +84,10 @@ pub fn write(bytes: &mut [u8], widths: &[u8], values: &[u64])
     requires { Laid widths.now (length bytes.old) (length values.now) }
     ensures { bytes.new ≡ written widths.now values.now bytes.old }
 {
-    let mut at: usize = 0;
-    let mut i: usize = 0;
-    while i < widths.len() {
-        let width = widths[i] as usize;
-        put(bytes, at, width, values[i]);
+    let mut at = 0;
+    for (width, value) in widths.iter().zip(values) {
+        let width = usize::from(*width);
+        put(bytes, at, width, *value);
         at += width;
-        i += 1;
     }
 }

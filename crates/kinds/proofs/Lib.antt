@@ -1,6 +1,4 @@
 -- Laws that the proofs of the functions share, and what the contracts come to. Assumes nothing.
-pub mod Nested
 pub mod Padded
 pub mod Layouts
-pub mod HighFields
 pub mod Settled

@@ -1,14 +1,14 @@
 -- A list padded to the code's room is the list with zeros behind it, and has the list's own elements, index by index. Assumes nothing.
-use mathlib.Core.Path.{◌≡◌, refl, sym, ap, ◌∙◌}
-use mathlib.Core.List.{List, [], ◌∷◌, ◌++◌, map}
+use mathlib.Core.Path.{◌≡◌, refl, ap, ◌∙◌}
+use mathlib.Core.List.{List, [], ◌∷◌, ◌++◌}
 use Prim.Native.Nat.{ℕ, zero, suc, ◌-◌, ◌≤◌, ◌<◌}
 use native.Mathlib.Nat.{sub-zero, suc-sub-suc}
 use native.Mathlib.Omega.{arith}
-use lib.ListN.{length, get_or, replicate, get_or-map}
+use lib.ListN.{length, get_or, replicate}
 use Rattle.lists.specs.Index.{table}
-use Rattle.lists.proofs.Index.{length_table, get_or_table, map_table, table_same}
+use Rattle.lists.proofs.Index.{length_table, get_or_table}
 use Rattle.lists.proofs.Lists.{get_or_alike}
-use Rattle.rules.specs.Kinds.{width, event_of}
+use Rattle.rules.specs.Kinds.{event_of}
 use Rattle.rules.specs.declared.Cell.{Cell}
 use Rattle.rules.specs.declared.Cell.TheVariants.{Bits}
 use Rattle.kinds.specs.Padded.{most, padded, padded_cells}
@@ -44,13 +44,6 @@ padded_at l h i = ap (λ (m : List ℕ). get_or m i 0) (padded_is l h) ∙ behin
 pub cell_at : (cs : List Cell) (i : ℕ) (d : Cell) → i < most → get_or (padded_cells cs) i d ≡ get_or cs i (Bits 0)
 unfolding padded_cells
 cell_at cs i d h = get_or_table most (λ j. get_or cs j (Bits 0)) i d h
-
--- their widths
-pub widths_padded : (cs : List Cell) → map width (padded_cells cs) ≡ padded (map width cs)
-unfolding padded padded_cells width
-widths_padded cs =
-    map_table width most (λ i. get_or cs i (Bits 0))
-    ∙ table_same most (λ i. width (get_or cs i (Bits 0))) (λ i. get_or (map width cs) i 0) (λ i h. sym (get_or-map width cs i (Bits 0)))
 
 -- ---- events
 -- an event takes no more fields than the code has room for

@@ -1,5 +1,6 @@
 -- A number in decimal, and what putting bytes into a buffer leaves there.
 use Rattle.std.specs.Prelude.{◌≡◌, cond, List, [], ◌∷◌, ◌++◌, ℕ, zero, suc, ◌+◌, ◌/◌, ◌%◌, ltb, length, set}
+use Rattle.lines.specs.declared.Page.{Page}
 
 -- the decimal digits of n in ASCII, of which a number of 64 bits has 20 at the most
 unfoldable pub digits_of : ℕ → ℕ → List ℕ
@@ -25,3 +26,7 @@ past n at (b ∷ t) = past n (next n at) t
 pub record Puts (before : List ℕ) (at : ℕ) (text after : List ℕ) (r : ℕ) : Type 0 where
   pub bytes_are : after ≡ put before at text
   pub index_is : r ≡ past (length before) at text
+
+-- a text put on a page: into its buffer, from its index on
+abbrev pub PutsOn : Page → List ℕ → Page → Type 0
+PutsOn before text after = Puts before.bytes.now before.at text after.bytes.now after.at

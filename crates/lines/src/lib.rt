@@ -1,47 +1,54 @@
-// Text that is put together in a buffer that the caller lends: each function puts bytes from an index on and answers the index after
-// them. What no longer fits is left out.
+// Text that is put together in a buffer that the caller lends. What no longer fits is left out.
 #![tactic(auto)]
 
-ghost use Rattle.std.specs.Prelude.{[], ◌∷◌};
-ghost use Rattle.lines.specs.Text.{decimal as decimal_of, Puts};
+ghost use Rattle.std.specs.Prelude.{◌≡◌, [], ◌∷◌};
+ghost use Rattle.lines.specs.Text.{decimal as decimal_of, PutsOn};
 
-// Puts a byte.
-pub fn push(out: &mut [u8], at: usize, b: u8) -> usize
-    ensures { Puts out.old at (b ∷ []) out.new result }
-{
-    if at < out.len() {
-        out[at] = b;
-        return at + 1;
+// The buffer, and the index of its next byte, which may be past its end.
+#[derive(Drop)]
+pub struct Page<'a> {
+    pub bytes: &'a mut [u8],
+    pub at: usize,
+}
+
+impl Page<'_> {
+    // Puts a byte.
+    pub fn push(&mut self, b: u8)
+        ensures same_reference { self.new.bytes.ghost_name ≡ self.old.bytes.ghost_name }
+        ensures puts { PutsOn self.old (b ∷ []) self.new }
+    {
+        if self.at < self.bytes.len() {
+            self.bytes[self.at] = b;
+            self.at += 1;
+        }
     }
-    at
-}
 
-// Puts the bytes of a text.
-pub fn push_bytes(out: &mut [u8], at: usize, text: &[u8]) -> usize
-    ensures { Puts out.old at text.now out.new result }
-{
-    let mut p = at;
-    let mut i: usize = 0;
-    while i < text.len() {
-        p = push(out, p, text[i]);
-        i += 1;
+    // Puts the bytes of a text.
+    pub fn push_bytes(&mut self, text: &[u8])
+        ensures same_reference { self.new.bytes.ghost_name ≡ self.old.bytes.ghost_name }
+        ensures puts { PutsOn self.old text.now self.new }
+    {
+        for b in text {
+            self.push(*b);
+        }
     }
-    p
-}
 
-// Puts a number in decimal.
-pub fn push_number(out: &mut [u8], at: usize, n: u64) -> usize
-    ensures { Puts out.old at (decimal_of n) out.new result }
-{
-    let mut text = [0u8; 20];
-    let k = io::decimal(n, &mut text);
-    push_bytes(out, at, &text[..k])
-}
+    // Puts a number in decimal.
+    pub fn push_number(&mut self, n: u64)
+        ensures same_reference { self.new.bytes.ghost_name ≡ self.old.bytes.ghost_name }
+        ensures puts { PutsOn self.old (decimal_of n) self.new }
+    {
+        let mut text = [0u8; 20];
+        let k = io::decimal(n, &mut text);
+        self.push_bytes(&text[..k]);
+    }
 
-// Puts a space and a number.
-pub fn push_next(out: &mut [u8], at: usize, n: u64) -> usize
-    ensures { Puts out.old at (32 ∷ decimal_of n) out.new result }
-{
-    let p = push(out, at, b' ');
-    push_number(out, p, n)
+    // Puts a space and a number.
+    pub fn push_next(&mut self, n: u64)
+        ensures same_reference { self.new.bytes.ghost_name ≡ self.old.bytes.ghost_name }
+        ensures puts { PutsOn self.old (32 ∷ decimal_of n) self.new }
+    {
+        self.push(b' ');
+        self.push_number(n);
+    }
 }

@@ -1,70 +1,74 @@
--- The search for the nearest mark: the bits passed from place + 1's on are clear, so the first set one is the nearest. Assumes nothing.
-use mathlib.Core.Path.{◌≡◌, refl, sym, ap, ◌∙◌}
-use mathlib.Core.Bool.{true, false, false≢true}
+-- The search for the nearest mark goes over the words: those passed have no mark among the n, and the lowest in the first that has one is the
+-- nearest. Assumes nothing.
+use mathlib.Core.Path.{◌≡◌, refl, sym, ap, ap₂, ◌∙◌}
+use mathlib.Core.Bool.{Bool, true, false, ◌&&◌, and-true, false≢true}
 use mathlib.Core.List.{List}
-use Prim.Native.Nat.{ℕ, ◌+◌, ◌-◌, ◌*◌, ◌/◌, ◌%◌, ◌^◌, ◌≤◌, ◌<◌}
+use Prim.Native.Nat.{ℕ, ◌+◌, ◌-◌, ◌*◌, ◌^◌, ◌≤◌, ◌<◌}
 use native.Mathlib.Omega.{arith}
 use native.Mathlib.Decide.{dec_lt}
+use lib.Bits.{bit_and, and_le_l}
+use lib.Dec.{ltb, leb}
 use lib.ListN.{get_or}
+use borrow.Author.Tests.{lt-ltb, le-leb, ltb-true, leb-true}
 use Rattle.lists.specs.Index.{First}
 use Rattle.lists.proofs.Index.{first_here, first_end}
-use Rattle.word.specs.Word.{bit_at}
-use Rattle.word.proofs.Bits.{bit_past, bit_shr}
+use Rattle.word.specs.Word.{bit_at, Bits, in_range}
+use Rattle.word.proofs.Bits.{bit_at_and, bit_none, some_bit}
 use Rattle.row.specs.Row.{at}
 use Rattle.row.proofs.Rows.{at_word}
 
--- no bit of the row from s up to p is set
-abbrev pub Passed : List ℕ → ℕ → ℕ → Type 0
-Passed ws s p = (i : ℕ) → s + i < p → at ws (s + i) ≡ false
+-- no bit of index below n that stands in a word before the j-th is set
+abbrev pub Passed : List ℕ → ℕ → ℕ → ℕ → Type 0
+Passed ws s n j = (i : ℕ) → i < n → s + i < 64 * j → at ws (s + i) ≡ false
 
--- the word of bit p, from that bit on
-abbrev pub rest_of : List ℕ → ℕ → ℕ
-rest_of ws p = get_or ws (p / 64) 0 / 2 ^ (p % 64)
+both : (a b : Bool) → (a && b) ≡ true → (a ≡ true) × (b ≡ true)
+both true b e = (refl, e)
+both false b e = (e, absurd (false≢true e))
 
--- bit b of it
-rest_bit : (ws : List ℕ) (p b : ℕ) → p % 64 + b < 64 → bit_at (rest_of ws p) b ≡ at ws (p + b)
-rest_bit ws p b l =
-    let e : 64 * (p / 64) + (p % 64 + b) ≡ p + b = omega arith in
-    bit_shr (get_or ws (p / 64) 0) (p % 64) b ∙ sym (at_word ws (p / 64) (p % 64 + b) l) ∙ ap (at ws) e
+-- v is word j, and r has its bits from s up to s + n
+module _ (ws : List ℕ) (s n j v r : ℕ) (v_is : v ≡ get_or ws j 0) (r_is : Bits r (λ b. in_range s (s + n) (64 * j + b))) (none : Passed ws s n j) where
+  abbrev w : ℕ
+  w = bit_and v r
 
--- t is the lowest set bit of it, or 64 where none is
-module _ (ws : List ℕ) (s p t : ℕ) (none : Passed ws s p) (lowest : First (bit_at (rest_of ws p)) 64 t) where
-  -- no bit up to t is set, as far as the word goes
-  passed_to : (q : ℕ) → q ≤ p + t → q ≤ 64 * (p / 64) + 64 → Passed ws s q
-  passed_to q low high i l = elim (dec_lt (s + i) p) [
-    | yes m ↦ none i m
-    | no m ↦
-        let b : ℕ = s + i - p in
-        let e : s + i ≡ p + b = omega arith in
-        ap (at ws) e ∙ sym (rest_bit ws p b (omega arith)) ∙ lowest.none b (omega arith)
+  is : Bits w (λ b. at ws (64 * j + b) && in_range s (s + n) (64 * j + b))
+  is b l = bit_at_and v r b ∙ ap₂ (λ (x y : Bool). x && y) (ap (λ (u : ℕ). bit_at u b) v_is ∙ sym (at_word ws j b l)) (r_is b l)
+
+  -- bit b of it
+  at_index : (i b : ℕ) → i < n → s + i ≡ 64 * j + b → b < 64 → at ws (s + i) ≡ bit_at w b
+  at_index i b l e h =
+      let low : leb s (64 * j + b) ≡ true = le-leb s (64 * j + b) (omega arith) in
+      let high : ltb (64 * j + b) (s + n) ≡ true = lt-ltb (64 * j + b) (s + n) (omega arith) in
+      ap (at ws) e ∙ sym (is b h ∙ rw (low, high) (and-true (at ws (64 * j + b))))
+
+  passed_to : (t : ℕ) → t ≤ 64 → ((b : ℕ) → b < t → bit_at w b ≡ false) → (i : ℕ) → i < n → s + i < 64 * j + t → at ws (s + i) ≡ false
+  passed_to t h clear i l m = elim (dec_lt (s + i) (64 * j)) [
+    | yes k ↦ none i l k
+    | no k ↦ at_index i (s + i - 64 * j) l (omega arith) (omega arith) ∙ clear (s + i - 64 * j) (omega arith)
   ]
 
-  -- a word without a mark from p on is stepped over
-  pub passed_word : 64 ≤ t → Passed ws s (64 * (p / 64) + 64)
-  passed_word l = passed_to (64 * (p / 64) + 64) (omega arith) (omega arith)
+  pub passed_word : w ≡ 0 → Passed ws s n (j + 1)
+  passed_word z i l m = passed_to 64 (omega arith) (λ b h. ap (λ (v : ℕ). bit_at v b) z ∙ bit_none b) i l (omega arith)
 
-  -- the lowest bit is one of the word's
-  module _ (small : get_or ws (p / 64) 0 < 2 ^ 64) (l : t < 64) where
-    in_word : p % 64 + t < 64
-    in_word = elim (dec_lt (p % 64 + t) 64) [
-      | yes m ↦ m
-      | no m ↦
-          let past = bit_shr (get_or ws (p / 64) 0) (p % 64) t ∙ bit_past 64 (get_or ws (p / 64) 0) (p % 64 + t) small (omega arith) in
-          absurd (false≢true (sym past ∙ lowest.here l))
-    ]
+  -- its lowest bit is t
+  module _ (t : ℕ) (small : v < 2 ^ 64) (some : w ≡ 0 → ⊥) (lowest : First (bit_at w) 64 t) where
+    within : t < 64
+    within = some_bit w t (omega (arith, and_le_l v r)) some lowest
 
-    pub passed_low : Passed ws s (p + t)
-    passed_low = passed_to (p + t) (omega arith) (omega (arith, in_word))
+    set : (at ws (64 * j + t) ≡ true) × (in_range s (s + n) (64 * j + t) ≡ true)
+    set = both (at ws (64 * j + t)) (in_range s (s + n) (64 * j + t)) (sym (is t within) ∙ lowest.here within)
 
-    pub marked_low : at ws (p + t) ≡ true
-    marked_low = sym (rest_bit ws p t in_word) ∙ lowest.here l
+    pub inside : (s ≤ 64 * j + t) × (64 * j + t < s + n)
+    inside =
+        let h = both (leb s (64 * j + t)) (ltb (64 * j + t) (s + n)) set.1 in
+        (leb-true s (64 * j + t) h.0, ltb-true (64 * j + t) (s + n) h.1)
 
--- where the search ends
-module _ (ws : List ℕ) (s p : ℕ) (none : Passed ws s p) (n : ℕ) where
-  pub finds_none : s + n ≤ p → First (λ i. at ws (s + i)) n n
-  finds_none l = first_end (λ i. at ws (s + i)) n (λ i m. none i (omega arith)) n refl
+    pub finds_first : First (λ i. at ws (s + i)) n (64 * j + t - s)
+    finds_first =
+        let p_is : s + (64 * j + t - s) ≡ 64 * j + t = omega (arith, inside.0) in
+        first_here (λ i. at ws (s + i)) (64 * j + t - s)
+        (λ i m. passed_to t (omega (arith, within)) lowest.none i (omega (arith, inside)) (omega arith)) n (omega (arith, inside))
+        (ap (at ws) p_is ∙ set.0)
 
-  pub finds_first : s ≤ p → p < s + n → at ws p ≡ true → First (λ i. at ws (s + i)) n (p - s)
-  finds_first low l here =
-      let p_is : s + (p - s) ≡ p = omega arith in
-      first_here (λ i. at ws (s + i)) (p - s) (λ i m. none i (omega arith)) n (omega arith) (ap (at ws) p_is ∙ here)
+-- all words are passed
+pub finds_none : (ws : List ℕ) (s n j : ℕ) → Passed ws s n j → s + n ≤ 64 * j → First (λ i. at ws (s + i)) n n
+finds_none ws s n j none l = first_end (λ i. at ws (s + i)) n (λ i m. none i m (omega arith)) n refl

@@ -1,17 +1,15 @@
 -- A mark set, or not: by the test that comes before it. Assumes nothing.
-use mathlib.Core.Path.{◌≡◌, refl, sym, ap, ap₂, ◌∙◌}
+use mathlib.Core.Path.{◌≡◌, refl, sym, ap, ◌∙◌}
 use mathlib.Core.Bool.{Bool, true, false, not, cond, ◌&&◌, ◌||◌, or-false}
 use mathlib.Core.List.{List}
-use Prim.Native.Nat.{ℕ, ◌+◌, ◌/◌, ◌%◌, ◌≤◌, ◌<◌}
+use Prim.Native.Nat.{ℕ, ◌/◌, ◌%◌}
 use lib.Dec.{eqb, ltb}
 use lib.ListN.{get_or}
 use lib.Bits.{bit_or}
-use borrow.Author.Tests.{lt-ltb, le-ltb}
-use Rattle.psn.specs.Psn.{after, distance}
 use Rattle.word.specs.Word.{bit_at}
 use Rattle.word.proofs.Bits.{bit_at_or}
 use Rattle.row.specs.Row.{at, bits, Becomes, with_bit}
-use Rattle.marks.specs.Marks.{markable, MarksBit, offset, bit_of, markable_psn, Marks}
+use Rattle.marks.specs.Marks.{markable, MarksBit}
 
 -- a bit joined where it may be, and where it may not
 joined : (a b c : Bool) → (a || b && true && c) ≡ (a || (b && c))
@@ -56,27 +54,5 @@ module _ (retired marked : List ℕ) (p : ℕ) where
         marked_are = record {
           long = set.long;
           bits_are = λ k. set.bits_are k ∙ sym (ap (bit_then marked k p) may ∙ joined (at marked k) (eqb k p) (ltb k (bits marked)));
-        };
-      }
-
--- ---- a packet number p, at the index i
-module _ (retired marked : List ℕ) (place n p i : ℕ) (is : i ≡ distance (after place 1) p) where
-  may_is : (b : Bool) → ltb i n ≡ b → markable_psn retired marked place n p ≡ (b && markable retired marked (offset place + i))
-  may_is b e =
-      ap (λ (j : ℕ). ltb j n && markable retired marked (offset place + j)) (sym is) ∙ ap (λ (c : Bool). c && markable retired marked (offset place + i)) e
-
-  pub marks_past : n ≤ i → Marks retired marked place n p marked 0
-  marks_past l =
-      let none : markable_psn retired marked place n p ≡ false = may_is false (le-ltb i n l) in
-      record { newly_is = sym (ap (λ (b : Bool). cond b 1 0) none); marked_are = row_kept marked (bit_of place p) _ none }
-
-  pub marks_among : i < n → (ws : List ℕ) (r : ℕ) → MarksBit retired marked (offset place + i) ws r → Marks retired marked place n p ws r
-  marks_among l ws r h =
-      let same : markable_psn retired marked place n p ≡ markable retired marked (offset place + i) = may_is true (lt-ltb i n l) in
-      record {
-        newly_is = h.newly_is ∙ ap (λ (b : Bool). cond b 1 0) (sym same);
-        marked_are = record {
-          long = h.marked_are.long;
-          bits_are = λ k. h.marked_are.bits_are k ∙ ap₂ (bit_then marked k) (ap (λ (j : ℕ). offset place + j) is) (sym same);
         };
       }

@@ -1,11 +1,10 @@
 -- Marks over rows of words: what setting one leaves, and what the search for one finds.
-use Rattle.std.specs.Prelude.{◌≡◌, Bool, not, cond, ◌&&◌, ◌||◌, List, ℕ, ◌+◌, ◌%◌, ◌≤◌, ◌<◌, eqb, ltb}
+use Rattle.std.specs.Prelude.{◌≡◌, Bool, not, cond, ◌&&◌, ◌||◌, List, Option, Some, None, ℕ, ◌+◌, ◌%◌, ◌≤◌, ◌<◌, eqb, ltb}
+use Rattle.psn.specs.declared.Psn.{Psn}
 use Rattle.psn.specs.Psn.{turn, after, distance}
 use Rattle.lists.specs.Index.{First}
 use Rattle.row.specs.Row.{at, bits, Becomes, without_bit}
 use Rattle.rules.specs.Numbers.{psn}
-use Rattle.marks.specs.declared.Found.{Found}
-use Rattle.marks.specs.declared.Found.TheVariants.{Marked, Nothing}
 
 -- "marks an outstanding, unretired PSN .. retired or already marked: 0"
 abbrev pub markable : List ℕ → List ℕ → ℕ → Bool
@@ -42,15 +41,15 @@ pub record Marks (retired marked : List ℕ) (place n p : ℕ) (marked' : List �
       (λ k. at marked k || eqb k (bit_of place p) && markable_psn retired marked place n p && ltb k (bits marked))
 
 -- "hands out the marked PSN nearest after the place": the i-th is the first that is marked, or none of the n is
-unfoldable pub Finds : List ℕ → ℕ → ℕ → Found → Type 0
-Finds ws place n (Marked p) = (i : ℕ) × (i < n) × First (marked_at ws place) n i × (p ≡ psn (after place (1 + i)))
-Finds ws place n Nothing = First (marked_at ws place) n n
+unfoldable pub Finds : List ℕ → ℕ → ℕ → Option Psn → Type 0
+Finds ws place n (Some p) = (i : ℕ) × (i < n) × First (marked_at ws place) n i × (p ≡ psn (after place (1 + i)))
+Finds ws place n None = First (marked_at ws place) n n
 
 -- "and clears its mark"
-unfoldable pub left_after : List ℕ → ℕ → Found → ℕ → Bool
-left_after ws place (Marked p) = without_bit ws (bit_of place p.0)
-left_after ws place Nothing = at ws
+unfoldable pub left_after : List ℕ → ℕ → Option Psn → ℕ → Bool
+left_after ws place (Some p) = without_bit ws (bit_of place p.0)
+left_after ws place None = at ws
 
-pub record Takes (ws : List ℕ) (place n : ℕ) (ws' : List ℕ) (r : Found) : Type 0 where
+pub record Takes (ws : List ℕ) (place n : ℕ) (ws' : List ℕ) (r : Option Psn) : Type 0 where
   pub finds : Finds ws place n r
   pub marked_are : Becomes ws ws' (left_after ws place r)

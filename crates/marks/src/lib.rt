@@ -29,44 +29,34 @@ pub fn mark_psn(retired: &[u64], marked: &mut [u64], place: Psn, n: u32, psn: Ps
     mark(retired, marked, (place.0 + 1) % 64 + i)
 }
 
-// What the search finds.
-#[derive(Clone, Copy)]
-pub enum Found {
-    Marked(Psn),
-    Nothing,
-}
-
-// The marked packet number nearest after the place, among the n after it. The search goes over words and bits: from bit p on it looks for the
-// lowest mark of the word, steps over a word that has none, and stops at the first found, which is its value.
-fn nearest(marked: &[u64], place: Psn, n: u32) -> Found
+// The marked packet number nearest after the place, among the n after it. The search goes over words and bits and stops at the first found, which is
+// the loop's value, by break: the form that the customer's scope names for it. With `s + n <= 64 * j` as its end a resend is a fifth to a half slower.
+fn nearest(marked: &[u64], place: Psn, n: u32) -> Option<Psn>
     requires { Reach place.0 n }
     ensures { Finds marked.now place.0 n result }
 {
     let s = (place.0 + 1) % 64;
-    let mut p = s;
-    let psn = loop {
-        if s + n <= p {
-            return Found::Nothing;
+    let words = (s + n).div_ceil(64);
+    let mut j = 0;
+    loop {
+        if words <= j {
+            break None;
         }
-        let t = word::lowest(row::word_at(marked, (p / 64) as usize) >> (p % 64));
-        if t < 64 {
-            if s + n <= p + t {
-                return Found::Nothing;
-            }
-            break place.after(1 + (p + t - s));
+        let w = row::word_at(marked, j as usize) & row::range(j, s, s + n);
+        if w != 0 {
+            break Some(place.after(1 + (64 * j + word::lowest(w) - s)));
         }
-        p = 64 * (p / 64) + 64;
-    };
-    Found::Marked(psn)
+        j += 1;
+    }
 }
 
 // The marked packet number nearest after the place, among the n after it, with its mark cleared.
-pub fn take(marked: &mut [u64], place: Psn, n: u32) -> Found
+pub fn take(marked: &mut [u64], place: Psn, n: u32) -> Option<Psn>
     requires { Reach place.0 n }
     ensures { Takes marked.old place.0 n marked.new result }
 {
     let found = nearest(marked, place, n);
-    if let Found::Marked(psn) = found {
+    if let Some(psn) = found {
         row::clear(marked, (place.0 + 1) % 64 + place.after(1).distance(psn));
     }
     found

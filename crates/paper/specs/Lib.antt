@@ -1,2 +1,2 @@
--- What an answer's line shows.
+-- What a reply's line shows.
 pub mod Shown

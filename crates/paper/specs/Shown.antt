@@ -1,7 +1,6 @@
--- The number of an answer and the values of its line, in the code's array.
+-- The number of a reply and the values of its line, in the code's array.
 use Rattle.std.specs.Prelude.{List, ◌++◌, ℕ, length, take, replicate}
-use Rattle.rules.specs.Paper.{paper}
-use Rattle.rules.specs.declared.Answer.{Answer}
+use Rattle.rules.specs.Paper.{Reply, reply_line}
 use Rattle.paper.specs.declared.Shown.{Shown}
 
 -- the most values that a line has: those of a SACK
@@ -12,6 +11,6 @@ most = 8
 abbrev pub filled : ℕ → List ℕ → Shown
 filled n l = record { number = n; many = length l; values = take most (l ++ replicate most 0) }
 
--- what an answer's line shows
-abbrev pub shown : Answer → Shown
-shown a = filled (paper a).number (paper a).values
+-- what a reply's line shows
+abbrev pub shown : Reply → Shown
+shown r = filled (reply_line r).number (reply_line r).values

@@ -1,23 +1,22 @@
 -- What stands in the buffer after some turns: each line behind the one before it, whole, since there was room for it. Assumes nothing.
 use mathlib.Core.Path.{◌≡◌, refl, sym, ap, subst, ◌∙◌}
-use mathlib.Core.Bool.{Bool, true, false, cond, false≢true}
+use mathlib.Core.Bool.{true, false, false≢true}
 use mathlib.Core.List.{List, [], ◌∷◌, ◌++◌, append_assoc, append-nil}
-use Prim.Native.Nat.{ℕ, ◌+◌, ◌-◌, ◌≤◌, ◌<◌}
+use Prim.Native.Nat.{ℕ, ◌+◌, ◌-◌, ◌≤◌, ◌<◌, min}
 use native.Mathlib.Omega.{arith}
-use lib.Dec.{ltb}
 use lib.ListN.{length, take, drop}
-use lib.Seq.{length-take-le, take_all, drop-drop}
-use borrow.Author.Tests.{ltb-true, ltb-false}
+use lib.Seq.{length-take-le, drop-drop}
+use Rattle.std.proofs.lemmas.List.{take_min}
 use Rattle.rules.specs.Log.{read}
 use Rattle.rules.specs.Replay.{Replied, line, stop}
-use Rattle.rules.specs.declared.Read.TheVariants.{Nothing}
+use Rattle.rules.specs.Outcomes.{Nothing}
 use Rattle.lines.specs.Text.{Puts}
 use Rattle.lines.proofs.Room.{puts_whole}
 use Rattle.text.specs.Text.{line_text, lines_text, last_text, line_room}
 use Rattle.text.proofs.Telling.{line_short, last_short, lines_more, lines_one}
 use Rattle.player.specs.declared.State.{State}
 use Rattle.player.specs.Play.{Sound, Turned}
-use Rattle.player.specs.Piece.{in_buffer, Turns, none, Pieces}
+use Rattle.player.specs.Piece.{Turns, none, Pieces}
 use Rattle.player.proofs.Turning.{turns_further, turns_more}
 
 -- the text of some turns stands behind the first bytes
@@ -30,36 +29,18 @@ pub record Filled (log : List ℕ) (x : State) (from : ℕ) (before out : List �
   pub text : take at out ≡ take from before ++ lines_text lines
   pub later : drop at out ≡ drop at before
 
-pub filled_none : (log : List ℕ) (x : State) (from : ℕ) (before : List ℕ) (at : ℕ) → Sound x → at ≡ in_buffer from (length before)
+pub filled_none : (log : List ℕ) (x : State) (from : ℕ) (before : List ℕ) (at : ℕ) → Sound x → at ≡ min from (length before)
     → Filled log x from before before x at
 unfolding lines_text
-filled_none log x from before at s e = go (ltb (length before) from) refl
-  where
-    go : (b : Bool) → ltb (length before) from ≡ b → Filled log x from before before x at
-    go true p =
-        let is : at ≡ length before = e ∙ ap (λ (b : Bool). cond b (length before) from) p in
-        let past = ltb-true (length before) from p in
-        record {
-          long = refl;
-          within = omega arith;
-          sound = s;
-          lines = [];
-          turns = none;
-          later = refl;
-          text = take_all at before (omega arith) ∙ sym (take_all from before (omega arith)) ∙ sym (append-nil (take from before));
-        }
-    go false p =
-        let is : at ≡ from = e ∙ ap (λ (b : Bool). cond b (length before) from) p in
-        let low = ltb-false (length before) from p in
-        record {
-          long = refl;
-          within = omega arith;
-          sound = s;
-          lines = [];
-          turns = none;
-          later = refl;
-          text = ap (λ (n : ℕ). take n before) is ∙ sym (append-nil (take from before));
-        }
+filled_none log x from before at s e = record {
+  long = refl;
+  within = omega arith;
+  sound = s;
+  lines = [];
+  turns = none;
+  text = ap (λ (n : ℕ). take n before) e ∙ take_min from before ∙ sym (append-nil (take from before));
+  later = refl;
+}
 
 module _ {log : List ℕ} {x : State} {from : ℕ} {before out : List ℕ} {y : State} {at : ℕ} (f : Filled log x from before out y at) where
   -- what is put from there on leaves the bytes behind it as they were
@@ -99,7 +80,7 @@ module _ {log : List ℕ} {x : State} {from : ℕ} {before out : List ℕ} {y : 
       absurd (omega (arith, f.long))
   some_line (r ∷ l) e h k = omega arith
 
-  pub filled_goes_on : length out - at < line_room → Pieces log x from before (record { length = at; state = y; more = true }) out
+  pub filled_goes_on : length out - at < line_room → Pieces log x from before (record { length = at; more = true }) y out
   filled_goes_on h = record {
     long = f.long;
     fits = f.within;
@@ -113,7 +94,7 @@ module _ {log : List ℕ} {x : State} {from : ℕ} {before out : List ℕ} {y : 
   -- the last line
   pub filled_ends : {n : ℕ} {after : List ℕ} {p : ℕ} → read log y.place ≡ Nothing n → line_room ≤ length out - at
       → Puts out at (last_text (stop n y.place y.count)) after p
-      → Pieces log x from before (record { length = p; state = y; more = false }) after
+      → Pieces log x from before (record { length = p; more = false }) y after
   filled_ends {n} {after} {p} e h q =
       let last = stop n y.place y.count in
       let short = last_short last in

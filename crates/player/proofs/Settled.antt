@@ -4,8 +4,7 @@ use mathlib.Core.List.{List}
 use Prim.Native.Nat.{ℕ}
 use Rattle.rules.specs.Replay.{Replied}
 use Rattle.rules.specs.declared.Event.{Event}
-use Rattle.rules.specs.declared.Read.{Read}
-use Rattle.rules.specs.declared.Read.TheVariants.{Record, Nothing}
+use Rattle.rules.specs.Outcomes.{Reading, Record, Nothing}
 use Rattle.table.specs.Slots.{On, meaning}
 use Rattle.table.proofs.Settled.{event_settled}
 use Rattle.player.specs.declared.State.{State}
@@ -18,19 +17,19 @@ pub record Same (l m : Replied) (y z : State) : Type 0 where
   pub slots_same : meaning y.slots ≡ meaning z.slots
 
 -- what a record that is read has
-abbrev slot_in : ℕ → Read → ℕ
+abbrev slot_in : ℕ → Reading → ℕ
 slot_in d (Record slot e kind next) = slot
 slot_in d (Nothing n) = d
 
-abbrev event_in : Event → Read → Event
+abbrev event_in : Event → Reading → Event
 event_in d (Record slot e kind next) = e
 event_in d (Nothing n) = d
 
-abbrev kind_in : Read → ℕ
+abbrev kind_in : Reading → ℕ
 kind_in (Record slot e kind next) = kind
 kind_in (Nothing n) = 0
 
-abbrev next_in : Read → ℕ
+abbrev next_in : Reading → ℕ
 next_in (Record slot e kind next) = next
 next_in (Nothing n) = 0
 

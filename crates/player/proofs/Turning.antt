@@ -1,33 +1,22 @@
 -- A record that is read and answered makes a turn; it takes the place on, so the count stays behind it. Turns, one after the other, are turns. Assumes nothing.
-use mathlib.Core.Path.{◌≡◌, sym, ◌∙◌}
+use mathlib.Core.Path.{◌≡◌, refl, ◌∙◌}
 use mathlib.Core.List.{List, [], ◌∷◌, ◌++◌}
 use Prim.Native.Nat.{ℕ, ◌+◌, ◌≤◌, ◌<◌}
 use native.Mathlib.Omega.{arith}
-use lib.ListN.{length, length-set, length-replicate, set, get_or}
+use lib.ListN.{length, length-replicate}
 use Rattle.rules.specs.Numbers.{program_slots}
-use Rattle.rules.specs.Table.{in_slot}
-use Rattle.rules.specs.Paper.{read_line}
 use Rattle.rules.specs.Log.{read}
 use Rattle.rules.specs.Replay.{Replied, Last}
-use Rattle.rules.specs.declared.Answer.TheVariants as answer
+use Rattle.rules.specs.Outcomes.{Record}
 use Rattle.rules.specs.declared.Event.{Event}
-use Rattle.rules.specs.declared.Read.{Read}
-use Rattle.rules.specs.declared.Read.TheVariants.{Record}
-use Rattle.rules.proofs.Apart.{reads_apart}
 use Rattle.rules.proofs.RoundTrip.{read_kind}
 use Rattle.connection.specs.declared.Connection.{Connection}
-use Rattle.connection.specs.declared.Stepped.{Stepped}
-use Rattle.connection.specs.Record.{empty, Steps}
-use Rattle.connection.specs.Record as connection
+use Rattle.connection.specs.Record.{empty}
 use Rattle.table.specs.Slots.{On}
-use Rattle.table.proofs.Slots.{empty_sound, past_end, stored}
+use Rattle.table.proofs.Slots.{empty_sound}
 use Rattle.player.specs.declared.State.{State}
 use Rattle.player.specs.Play.{begin, Sound, Turned, Plays, goes_on}
 use Rattle.player.specs.Piece.{Turns, none, one_more}
-
--- what the reader answered is what the rules read
-pub answered_read : (log : List ℕ) (place : ℕ) (x y : Read) → read_line x ≡ read_line (read log place) → x ≡ y → read log place ≡ y
-answered_read log place x y h e = sym (reads_apart x (read log place) h) ∙ e
 
 -- a record takes the place on, and ends in the log
 pub read_further : (log : List ℕ) (place slot : ℕ) (e : Event) (kind next : ℕ) → read log place ≡ Record slot e kind next
@@ -40,34 +29,22 @@ read_further log place slot e kind next h =
 pub begin_sound : Sound begin
 begin_sound = record { many = length-replicate {A = Connection} program_slots empty; slots_sound = empty_sound program_slots; count_low = omega arith }
 
--- ---- one turn
-module _ (log : List ℕ) (x : State) (s : Sound x) (slot : ℕ) (e : Event) (kind next : ℕ) (h : read log x.place ≡ Record slot e kind next) where
-  turned : {l : Replied} (after : List Connection) → l.kind ≡ kind → length after ≡ length x.slots → On x.slots slot e l.answer after
-      → Turned log x l (record { slots = after; place = next; count = x.count + 1 })
-  turned {l} after k long m = record {
-    slot = slot;
-    event = e;
-    read_is = h ∙ sym (λ i. Record slot e (k i) next);
-    answer_meets = m;
-    count_is = λ i. x.count + 1;
-    sound = record {
-      many = long ∙ s.many;
-      slots_sound = m.meets.sound;
-      count_low = omega (arith, s.count_low, read_further log x.place slot e kind next h);
-    };
-  }
-
-  -- a slot past the program's
-  pub turned_past : program_slots ≤ slot
-      → Turned log x (record { kind = kind; answer = answer.Refused 1 }) (record { slots = x.slots; place = next; count = x.count + 1 })
-  turned_past far = turned x.slots (λ i. kind) (λ i. length x.slots) (past_end x.slots slot e s.slots_sound (omega (arith, s.many)))
-
-  -- any other: its record is answered by value and stored back
-  pub turned_in : slot < program_slots → (r : Stepped) → Steps (get_or x.slots slot empty) (in_slot (connection.meaning (get_or x.slots slot empty)) e) r
-      → Turned log x (record { kind = kind; answer = r.answer }) (record { slots = set x.slots slot r.«record»; place = next; count = x.count + 1 })
-  turned_in near r m =
-      turned (set x.slots slot r.«record») (λ i. kind) (length-set x.slots slot r.«record»)
-      (stored x.slots slot e s.slots_sound (omega arith) (omega (arith, s.many)) r m)
+-- a record that is read and answered is a turn
+pub turned : (log : List ℕ) (x : State) (slot : ℕ) (e : Event) (kind next : ℕ) (l : Replied) (after : List Connection) → Sound x
+    → read log x.place ≡ Record slot e kind next → l.kind ≡ kind → On x.slots slot e l.answer after → length after ≡ length x.slots
+    → Turned log x l (record { slots = after; place = next; count = x.count + 1 })
+turned log x slot e kind next l after s h k m long = record {
+  slot = slot;
+  event = e;
+  read_is = rw k h;
+  answer_meets = m;
+  count_is = refl;
+  sound = record {
+    many = long ∙ s.many;
+    slots_sound = m.meets.sound;
+    count_low = omega (arith, s.count_low, read_further log x.place slot e kind next h);
+  };
+}
 
 -- ---- turns, one after the other
 -- from one place in the log to a later one

@@ -18,10 +18,10 @@ behind front x y z p q r = rw (p, q, r) (simp append_assoc)
 -- the lines and the last line of all turns that are left
 writes_plays : (log : List ℕ) {x : State} {front text : List ℕ} → Writes log x front text
     → (l : List Replied) × (last : Last) × Plays log x l last × (text ≡ front ++ (lines_text l ++ last_text last))
-writes_plays log (ends from before r after e p m) =
+writes_plays log (ends {y = y} from before r after e p m) =
     let t = p.text in
     let u = t.ends m in
-    (t.lines ++ [], stop u.0 r.state.place r.state.count, turns_plays t.turns (stops u.0 u.1), u.2 ∙ rw (e, append-nil t.lines))
+    (t.lines ++ [], stop u.0 y.place y.count, turns_plays t.turns (stops u.0 u.1), u.2 ∙ rw (e, append-nil t.lines))
 writes_plays log (goes_on {front = front} from before r after e p m w) =
     let t = p.text in
     let u = writes_plays log w in (

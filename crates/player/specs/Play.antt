@@ -4,7 +4,7 @@ use Rattle.rules.specs.Numbers.{program_slots}
 use Rattle.rules.specs.Log.{read}
 use Rattle.rules.specs.Replay.{Replied, Last, stop}
 use Rattle.rules.specs.declared.Event.{Event}
-use Rattle.rules.specs.declared.Read.TheVariants.{Record, Nothing}
+use Rattle.rules.specs.Outcomes.{Record, Nothing}
 use Rattle.connection.specs.Record.{empty}
 use Rattle.table.specs.Slots.{AllSound, On}
 use Rattle.player.specs.declared.State.{State}

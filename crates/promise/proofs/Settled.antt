@@ -1,15 +1,18 @@
--- What `Meets` allows is settled where lines tell answers apart: two answers with one line are one, and two records mean what the rule
--- leaves. Assumes nothing.
+-- What `Meets` allows is settled where lines tell apart what an engine may give: two results with one line are one, and two records mean what
+-- the rule leaves. Assumes nothing.
 use mathlib.Core.Path.{◌≡◌, sym, ◌∙◌}
+use Prim.Native.Nat.{ℕ}
+use Rattle.std.specs.Prelude.{Result}
 use Rattle.promise.specs.Line.{Line}
 use Rattle.promise.specs.Outcome.{Outcome}
-use Rattle.promise.specs.Promise.{Meets}
+use Rattle.promise.specs.Promise.{told, Meets}
 
--- two answers with the same line are one
+-- two of them with the same line are one
 abbrev pub Apart : {A : Type 0} → (A → Line) → Type 0
 Apart {A} line = (a b : A) → line a ≡ line b → a ≡ b
 
-module _ {A R S : Type 0} {line : A → Line} (apart : Apart line) {Sound : R → Type 0} {meaning : R → S} {x : R} {o : Outcome A S} where
+module _ {A E R S : Type 0} {line : A → Line} {number : E → ℕ} (apart : Apart (told line number)) {Sound : R → Type 0} {meaning : R → S} {x : R} {o : Outcome A S} where
   -- any two outcomes that the promise allows are equal, the records by what document 01 lists
-  pub settled : (a b : A) (y z : R) → Meets line Sound meaning x o a y → Meets line Sound meaning x o b z → (a ≡ b) × (meaning y ≡ meaning z)
-  settled a b y z p q = (apart a b (p.answer_is ∙ sym q.answer_is), p.record_is ∙ sym q.record_is)
+  pub settled : (r q : Result A E) (y z : R) → Meets line number Sound meaning x o r y → Meets line number Sound meaning x o q z
+      → (r ≡ q) × (meaning y ≡ meaning z)
+  settled r q y z m n = (apart r q (m.answer_is ∙ sym n.answer_is), m.record_is ∙ sym n.record_is)

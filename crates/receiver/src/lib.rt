@@ -4,26 +4,17 @@
 ghost use Rattle.std.specs.Prelude.{◌≡◌};
 ghost use Rattle.rules.specs.Receiver.{start as start_of};
 ghost use Rattle.rules.specs.Receiving.{arrive as arrive_of, step as step_of};
-ghost use Rattle.receiver.specs.Record.{empty as empty_of, meaning, Sound, Steps};
+ghost use Rattle.receiver.specs.Record.{empty as empty_of, meaning, Begins, Sound, Steps};
 
 use psn::Psn;
 use receiving::Head;
-use rules::{Answer, Arrival, Opening, Receiving, WORDS};
+use rules::{Arrival, Opening, Receiving, Refusal, Stepped, WORDS};
 
 // A receiver by value.
 #[derive(Clone, Copy)]
 pub struct Receiver {
-    pub room: u32,
-    pub expected: Psn,
+    pub head: Head,
     pub words: [u64; WORDS],
-    pub count: u32,
-}
-
-// The answer to an event, and the record after it.
-#[derive(Clone, Copy)]
-pub struct Stepped {
-    pub answer: Answer,
-    pub record: Receiver,
 }
 
 impl Receiver {
@@ -32,79 +23,56 @@ impl Receiver {
         ensures { result ≡ empty_of }
     {
         Receiver {
-            room: 0,
-            expected: Psn(0),
+            head: Head {
+                room: 0,
+                expected: Psn(0),
+                count: 0,
+            },
             words: [0; WORDS],
-            count: 0,
         }
     }
 
     // A start. Refused, it hands back the empty record.
-    pub fn start(opening: Opening) -> Stepped
-        ensures { Steps empty_of (start_of opening) result }
+    pub fn start(opening: Opening) -> Stepped<Receiver>
+        ensures { Steps empty_of (start_of opening) result.answer result.next }
+    {
+        Stepped::started(Receiver::opened(opening), Receiver::empty())
+    }
+
+    // The record that a start opens.
+    fn opened(opening: Opening) -> Result<Receiver, Refusal>
+        ensures { Begins (start_of opening) result }
     {
         let room = opening.room as u32;
         let first = opening.first;
-        if !allowed::room_ok(room) {
-            return Receiver::empty().refused(4);
-        }
-        if !allowed::psn_ok(first) {
-            return Receiver::empty().refused(5);
-        }
-        let mut words = [0u64; WORDS];
+        Refusal::BadRoom.unless(allowed::room_ok(room))?;
+        Refusal::BadPsn.unless(allowed::psn_ok(first))?;
+        let mut words = [0; WORDS];
         words[0] = word::low(first.0 % 64);
-        Stepped {
-            answer: Answer::Started,
-            record: Receiver {
+        Ok(Receiver {
+            head: Head {
                 room,
                 expected: first,
-                words,
                 count: 0,
             },
-        }
-    }
-
-    // A refusal leaves the record as it is.
-    fn refused(self, number: u8) -> Stepped
-        ensures { (result.answer ≡ Answer.Refused number) × (result.record ≡ self) }
-    {
-        Stepped {
-            answer: Answer::Refused(number),
-            record: self,
-        }
+            words,
+        })
     }
 
     // An arrival.
-    pub fn arrive(self, a: Arrival) -> Stepped
+    pub fn arrive(mut self, a: Arrival) -> Stepped<Receiver>
         requires { Sound self }
-        ensures { Steps self (arrive_of (meaning self) a) result }
+        ensures { Steps self (arrive_of (meaning self) a) result.answer result.next }
     {
-        let expected = self.expected;
-        let mut words = self.words;
-        let head = Head {
-            room: self.room,
-            expected,
-            count: self.count,
-        };
-        let out = head.arrive(&mut words, a);
-        let answer = out.answer;
-        let left = out.record;
-        let next = left.expected;
-        Stepped {
-            answer,
-            record: Receiver {
-                room: left.room,
-                expected: next,
-                words,
-                count: left.count,
-            },
-        }
+        let answer = self.head.arrive(&mut self.words, a);
+        Stepped { answer, next: self }
     }
 
     // An event.
-    pub fn step(self, event: Receiving) -> Stepped
+    #[tactic(auto, unfolding(rules::specs::Receiving::step))]
+    pub fn step(self, event: Receiving) -> Stepped<Receiver>
         requires { Sound self }
-        ensures { Steps self (step_of (meaning self) event) result }
+        ensures { Steps self (step_of (meaning self) event) result.answer result.next }
     {
         self.arrive(event)
     }

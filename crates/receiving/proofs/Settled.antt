@@ -7,10 +7,10 @@ use Rattle.row.proofs.Rows.{at_zeros}
 use Rattle.row.proofs.Settled.{Words, becomes_settled}
 use Rattle.rules.specs.Numbers.{psn}
 use Rattle.rules.specs.Receiver.{Receiver, room}
+use Rattle.rules.specs.Paper.{Reply}
 use Rattle.rules.specs.declared.Arrival.{Arrival}
 use Rattle.rules.proofs.Settled.{settled}
 use Rattle.receiving.specs.declared.Head.{Head}
-use Rattle.receiving.specs.declared.Stepped.{Stepped}
 use Rattle.receiving.specs.Lent.{Lent, lent, empty, offset, meaning, Started, Sound, Arrives}
 use Rattle.receiving.proofs.Entries.{room_is, entry, entry_past}
 
@@ -43,13 +43,13 @@ words_are : (x : Lent) → Sound x → Row x.words (bit_of (meaning x))
 words_are x (inl e) = subst (λ (y : Lent). Row y.words (bit_of (meaning y))) (sym e) (empty_words (length x.words))
 words_are x (inr s) = started_words x s
 
--- the words after it are us or vs
-pub arrive_settled : (x : Lent) (a : Arrival) (r s : Stepped) (us vs : List ℕ) → Words us → Words vs → Arrives x a r us → Arrives x a s vs
-    → (r.answer ≡ s.answer) × (r.«record» ≡ s.«record») × (us ≡ vs)
-arrive_settled x a r s us vs small small' p q =
-    let y = lent r.«record» us in
-    let z = lent s.«record» vs in
-    let same = settled r.answer s.answer y z p.meets q.meets in
+-- the head and the words after it are h and us, or k and vs
+pub arrive_settled : (x : Lent) (a : Arrival) (r s : Reply) (h k : Head) (us vs : List ℕ) → Words us → Words vs → Arrives x a r h us
+    → Arrives x a s k vs → (r ≡ s) × (h ≡ k) × (us ≡ vs)
+arrive_settled x a r s h k us vs small small' p q =
+    let y = lent h us in
+    let z = lent k vs in
+    let same = settled r s y z p.meets q.meets in
     let put : Becomes x.words us (bit_of (meaning z)) =
     record { long = p.long; bits_are = subst (λ (m : Receiver). Row us (bit_of m)) same.1 (words_are y p.meets.sound) } in
     let put' : Becomes x.words vs (bit_of (meaning z)) = record { long = q.long; bits_are = words_are z q.meets.sound } in

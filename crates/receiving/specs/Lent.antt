@@ -1,17 +1,17 @@
 -- A receiver's head over the words lent to it: what they mean, which there are, and what an arrival owes.
-use Rattle.std.specs.Prelude.{◌≡◌, ℕ, ◌+◌, ◌*◌, ◌%◌, ◌<◌, ◌≤◌, Bool, true, false, ◌⊎◌, List, length, replicate}
+use Rattle.std.specs.Prelude.{Ok, ◌≡◌, ℕ, ◌+◌, ◌*◌, ◌%◌, ◌<◌, ◌≤◌, Bool, true, false, ◌⊎◌, List, length, replicate}
 use Rattle.lists.specs.Index.{table}
 use Rattle.row.specs.Row.{at}
 use Rattle.rules.specs.Numbers.{turn, psn, room_ok}
 use Rattle.promise.specs.Promise.{Meets}
 use Rattle.rules.specs.Receiver.{Receiver, accept, counted, sack_of}
 use Rattle.rules.specs.Receiving.{arrive}
-use Rattle.rules.specs.Paper.{paper}
+use Rattle.rules.specs.Numbered.{number}
+use Rattle.rules.specs.Paper.{paper, Reply}
 use Rattle.rules.specs.declared.Arrival.{Arrival}
 use Rattle.rules.specs.declared.Verdict.{Verdict}
 use Rattle.rules.specs.declared.Answer.TheVariants as answer
 use Rattle.receiving.specs.declared.Head.{Head}
-use Rattle.receiving.specs.declared.Stepped.{Stepped}
 
 pub record Lent : Type 0 where
   pub head : Head
@@ -57,14 +57,14 @@ pub record Accepts (x : Lent) (a : Arrival) (y : Lent) : Type 0 where
   pub started : Started y
   pub accepted_is : meaning y ≡ accept (meaning x) a
 
--- an arrival judged v, fresh or known, is counted and answered as the rule says, over the same words
-pub record Acks (x : Lent) (v : Verdict) (a : Arrival) (r : Stepped) : Type 0 where
-  pub started : Started (lent r.«record» x.words)
-  pub counted_is : meaning (lent r.«record» x.words) ≡ counted (meaning x) a
-  pub answer_is : r.answer ≡ answer.Acked v (sack_of (counted (meaning x) a) a)
+-- an arrival judged v, fresh or known, is counted and answered r as the rule says, and leaves the head h over the same words
+pub record Acks (x : Lent) (v : Verdict) (a : Arrival) (r : Reply) (h : Head) : Type 0 where
+  pub started : Started (lent h x.words)
+  pub counted_is : meaning (lent h x.words) ≡ counted (meaning x) a
+  pub answer_is : r ≡ Ok (answer.Acked v (sack_of (counted (meaning x) a) a))
 
--- an arrival is answered r, and the words after it are ws
-pub record Arrives (x : Lent) (a : Arrival) (r : Stepped) (ws : List ℕ) : Type 0 where
-  pub meets : Meets paper Sound meaning x (arrive (meaning x) a) r.answer (lent r.«record» ws)
+-- an arrival is answered r, and leaves the head h over the words ws
+pub record Arrives (x : Lent) (a : Arrival) (r : Reply) (h : Head) (ws : List ℕ) : Type 0 where
+  pub meets : Meets paper number Sound meaning x (arrive (meaning x) a) r (lent h ws)
   -- the words are as many as before
   pub long : length ws ≡ length x.words

@@ -9,7 +9,8 @@ ghost use Rattle.receiving.specs.Lent.{lent, meaning, Started, Sound, Accepts, A
 
 use psn::{HALF, Psn, TURN};
 use rules::{
-    Answer, Arrival, Block, ECN, NO_BUFFER, Nack, RTX, Sack, TRIMMED, TRIMMED_LAST_HOP, Verdict,
+    Answer, Arrival, Block, ECN, NO_BUFFER, Nack, RTX, Refusal, Sack, Stepped, TRIMMED,
+    TRIMMED_LAST_HOP, Verdict,
 };
 
 // A receiver but for its words.
@@ -20,20 +21,13 @@ pub struct Head {
     pub count: u32,
 }
 
-// The answer to an event, and the head after it.
-#[derive(Drop)]
-pub struct Stepped {
-    pub answer: Answer,
-    pub record: Head,
-}
-
 // A NACK's reason, as a sender takes it: 0 where a SACK is sent.
+#[tactic(auto, unfolding(rules::specs::Receiver::reason_of))]
 fn reason(v: Verdict) -> u8
     ensures { result ≡ reason_of v }
 {
     match v {
-        Verdict::Fresh => 0,
-        Verdict::Known => 0,
+        Verdict::Fresh | Verdict::Known => 0,
         Verdict::Beyond => 3,
         Verdict::NoBuffer => 4,
         Verdict::Trim => 1,
@@ -41,12 +35,12 @@ fn reason(v: Verdict) -> u8
     }
 }
 
+#[tactic(auto, unfolding(rules::specs::Receiver::nack_of))]
 fn nack(v: Verdict, a: Arrival) -> Nack
     ensures { result ≡ nack_of v a }
 {
-    let psn = a.psn;
     Nack {
-        psn,
+        psn: a.psn,
         reason: reason(v),
         entropy: a.entropy,
         rtx: allowed::flag(a.flags, RTX),
@@ -55,9 +49,10 @@ fn nack(v: Verdict, a: Arrival) -> Nack
 
 impl Head {
     // How an arrival is judged.
-    fn judge(self, words: &[u64], a: Arrival) -> Verdict
-        requires { Started (lent self words.now) }
-        ensures { result ≡ verdict (meaning (lent self words.now)) a }
+    #[tactic(auto, using(crate::proofs::Entries::judging))]
+    fn judge(&self, words: &[u64], a: Arrival) -> Verdict
+        requires { Started (lent self.now words.now) }
+        ensures { result ≡ verdict (meaning (lent self.now words.now)) a }
     {
         let flags = a.flags;
         if allowed::flag(flags, TRIMMED) {
@@ -66,17 +61,14 @@ impl Head {
         if allowed::flag(flags, TRIMMED_LAST_HOP) {
             return Verdict::TrimLastHop;
         }
-        let expected = self.expected;
-        let psn = a.psn;
-        let d = expected.distance(psn);
+        let d = self.expected.distance(a.psn);
         if HALF <= d {
             return Verdict::Known;
         }
-        let room = self.room;
-        if room <= d {
+        if self.room <= d {
             return Verdict::Beyond;
         }
-        if row::test(words, expected.0 % 64 + d) {
+        if row::test(words, self.expected.0 % 64 + d) {
             return Verdict::Known;
         }
         if allowed::flag(flags, NO_BUFFER) {
@@ -85,16 +77,15 @@ impl Head {
         Verdict::Fresh
     }
 
-    // A fresh packet is accepted, and E moves to the first that is not.
+    // A fresh packet is accepted, and E moves to the first that is not. By value, as `acked` is: in place an arrival takes a tenth longer.
     fn accept(self, words: &mut [u64], a: Arrival) -> Head
         requires { Started (lent self words.old) × (verdict (meaning (lent self words.old)) a ≡ Fresh) }
         ensures { Accepts (lent self words.old) a (lent result words.new) }
     {
         let room = self.room;
         let expected = self.expected;
-        let psn = a.psn;
         let s = expected.0 % 64;
-        let d = expected.distance(psn);
+        let d = expected.distance(a.psn);
         row::set(words, s + d);
         let t = row::run_from(words, s, d == 0, s + room);
         row::shed(words, (t / 64) as usize);
@@ -106,25 +97,19 @@ impl Head {
     }
 
     // The reply to a packet that is fresh or known, from the record after it.
-    fn sack(self, words: &[u64], a: Arrival) -> Sack
-        requires { Started (lent self words.now) }
-        ensures { result ≡ sack_of (meaning (lent self words.now)) a }
+    fn sack(&self, words: &[u64], a: Arrival) -> Sack
+        requires { Started (lent self.now words.now) }
+        ensures { result ≡ sack_of (meaning (lent self.now words.now)) a }
     {
-        let room = self.room;
         let expected = self.expected;
-        let psn = a.psn;
-        let d = expected.distance(psn);
-        let mut o: u32 = 0;
-        if d < room {
-            o = 64 * (d / 64);
-        }
-        let block = Block {
-            base: expected.after(o),
-            bitmap: row::block(words, expected.0 % 64 + o),
-        };
+        let d = expected.distance(a.psn);
+        let o = if d < self.room { 64 * (d / 64) } else { 0 };
         Sack {
             cack: expected.after(TURN - 1),
-            block,
+            block: Block {
+                base: expected.after(o),
+                bitmap: row::block(words, expected.0 % 64 + o),
+            },
             count: self.count / 256,
             mpr: 0,
             entropy: a.entropy,
@@ -134,61 +119,44 @@ impl Head {
     }
 
     // A packet that was just accepted, or is known: its size is counted, and a SACK answers it.
-    fn acked(self, words: &[u64], v: Verdict, a: Arrival) -> Stepped
+    fn acked(self, words: &[u64], v: Verdict, a: Arrival) -> Stepped<Head>
         requires { Started (lent self words.now) }
-        ensures { Acks (lent self words.now) v a result }
+        ensures { Acks (lent self words.now) v a result.answer result.next }
     {
-        let expected = self.expected;
-        let head = Head {
+        let next = Head {
             room: self.room,
-            expected,
-            count: std::num::wrapping_add_u32(self.count, a.size as u32),
+            expected: self.expected,
+            count: self.count.wrapping_add(a.size as u32),
         };
         Stepped {
-            answer: Answer::Acked(v, head.sack(words, a)),
-            record: head,
-        }
-    }
-
-    // A refusal leaves the head as it is.
-    fn refused(self, number: u8) -> Stepped
-        ensures { (result.answer ≡ Answer.Refused number) × (result.record ≡ self) }
-    {
-        Stepped {
-            answer: Answer::Refused(number),
-            record: self,
+            answer: Ok(Answer::Acked(v, next.sack(words, a))),
+            next,
         }
     }
 
     // An arrival, over lent words.
-    pub fn arrive(self, words: &mut [u64], a: Arrival) -> Stepped
-        requires { Sound (lent self words.old) }
-        ensures { Arrives (lent self words.old) a result words.new }
+    pub fn arrive(&mut self, words: &mut [u64], a: Arrival) -> Result<Answer, Refusal>
+        requires { Sound (lent self.old words.old) }
+        ensures { Arrives (lent self.old words.old) a result self.new words.new }
     {
-        if self.room == 0 {
-            return self.refused(2);
-        }
-        let psn = a.psn;
-        if !allowed::psn_ok(psn) {
-            return self.refused(5);
-        }
-        if !allowed::size_ok(a.size) {
-            return self.refused(6);
-        }
-        if !allowed::flags_ok(a.flags) {
-            return self.refused(14);
-        }
-        let v = self.judge(words, a);
-        if let Verdict::Fresh = v {
-            let head = self.accept(words, a);
-            return head.acked(words, v, a);
-        }
-        if let Verdict::Known = v {
-            return self.acked(words, v, a);
-        }
-        Stepped {
-            answer: Answer::Nacked(v, nack(v, a)),
-            record: self,
+        let head = *self;
+        Refusal::NotInUse.unless(head.room != 0)?;
+        Refusal::BadPsn.unless(allowed::psn_ok(a.psn))?;
+        Refusal::BadSize.unless(allowed::size_ok(a.size))?;
+        Refusal::BadFlags.unless(allowed::flags_ok(a.flags))?;
+        let v = head.judge(words, a);
+        match v {
+            Verdict::Fresh => {
+                let out = head.accept(words, a).acked(words, v, a);
+                *self = out.next;
+                out.answer
+            }
+            Verdict::Known => {
+                let out = head.acked(words, v, a);
+                *self = out.next;
+                out.answer
+            }
+            _ => Ok(Answer::Nacked(v, nack(v, a))),
         }
     }
 }

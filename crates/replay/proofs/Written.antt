@@ -47,9 +47,9 @@ written_none log {out = out} {at = at} h p e =
     })
 
 -- a piece more, whose bytes are n
-module _ {log out : List ℕ} {at : ℕ} {x : State} {total : ℕ} (w : Written log out at x total) {r : Piece} {after : List ℕ}
-    (p : Pieces log x at out r after) {n : ℕ} (h : n ≡ length (take r.length after)) where
-  pub written_more : r.more ≡ true → Written log after 0 r.state (total + n)
+module _ {log out : List ℕ} {at : ℕ} {x : State} {total : ℕ} (w : Written log out at x total) {r : Piece} {y : State} {after : List ℕ}
+    (p : Pieces log x at out r y after) {n : ℕ} (h : n ≡ length (take r.length after)) where
+  pub written_more : r.more ≡ true → Written log after 0 y (total + n)
   written_more m =
       let further = p.further m w.low in
       record {

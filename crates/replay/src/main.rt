@@ -6,6 +6,7 @@ ghost use Rattle.rules.specs.Numbers.{longest_log};
 ghost use Rattle.rules.specs.Replay.{replay as replay_of};
 ghost use Rattle.text.specs.Text.{text_of};
 
+use lines::Page;
 use player::State;
 use rules::LONGEST_LOG;
 
@@ -29,18 +30,21 @@ fn write(log: &[u8]) -> usize
     ensures { result ≡ length (text_of (replay_of log.now)) }
 {
     let mut out = [0u8; TEXT];
-    let mut at = text::head(&mut out);
+    let mut page = Page {
+        bytes: &mut out,
+        at: 0,
+    };
+    text::head(&mut page);
+    let mut at = page.at;
     let mut state = State::begin();
     let mut total: usize = 0;
+    // A loop: how many pieces there are, only the last one tells.
     loop {
-        let p = player::fill(state, log, &mut out, at);
-        let length = p.length;
-        let next = p.state;
-        total += print(&out[..length]);
-        if !p.more {
+        let piece = state.fill(log, &mut out, at);
+        total += print(&out[..piece.length]);
+        if !piece.more {
             return total;
         }
-        state = next;
         at = 0;
     }
 }

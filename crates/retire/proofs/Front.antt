@@ -18,7 +18,7 @@ use Rattle.rules.specs.declared.Block.{Block}
 use Rattle.retire.specs.Rows.{named_by_block, names, nothing, Retires}
 use Rattle.retire.specs.Front.{offset, row_first, reach, named_by, retired_then, marked_then, front, Ready, Moves}
 use Rattle.retire.specs.declared.Sum.{Sum}
-use Rattle.retire.proofs.Words.{retires_alike, retires_none, retires_same}
+use Rattle.retire.proofs.Words.{retires_alike, retires_nothing}
 use Rattle.retire.proofs.Blocks.{no_bits}
 
 -- ---- how far cack reaches, i being its distance from place + 1
@@ -43,17 +43,9 @@ module _ (place n cack i : ℕ) (i_is : i ≡ distance (after place 1) cack) (fe
       go (no k) =
           reach_is 0 (omega (arith, i_is, distance_lt (after place 1) cack)) ∙ ap (λ (b : Bool). offset place + cond b 0 0) (le-leb 0 n (omega arith)) ∙ omega arith
 
--- ---- the rows as `retire` leaves them, from the numbers that it was called with
-pub at_front : (retired marked sizes : List ℕ) (place n cack : ℕ) (b : Block) (R M : List ℕ) (out : Sum) (first upto : ℕ)
-    → first ≡ row_first place → upto ≡ reach place n cack → Retires retired marked sizes first (names first upto b) R M out
-    → Retires retired marked sizes (row_first place) (named_by place n cack b) R M out
-at_front retired marked sizes place n cack b R M out first upto e f h =
-    subst (λ (u : ℕ). Retires retired marked sizes (row_first place) (names (row_first place) u b) R M out) f
-    (subst (λ (a : ℕ). Retires retired marked sizes a (names a upto b) R M out) e h)
-
 -- ---- what is before the place may be named or not: it is retired and unmarked
 module _ (retired marked sizes : List ℕ) (place n : ℕ) (ready : Ready retired marked sizes place n) (b : Block) (R M : List ℕ) (out : Sum) where
-  pub before_place : Retires retired marked sizes (row_first place) (names (row_first place) 0 b) R M out
+  before_place : Retires retired marked sizes (row_first place) (names (row_first place) 0 b) R M out
       → Retires retired marked sizes (row_first place) (names (row_first place) (offset place) b) R M out
   unfolding names
   before_place =
@@ -72,6 +64,20 @@ module _ (retired marked sizes : List ℕ) (place n : ℕ) (ready : Ready retire
           → (at marked p && not (names (row_first place) 0 b p)) ≡ (at marked p && not (names (row_first place) (offset place) b p))
       clear p (yes l) = rw (ready.unmarked p l)
       clear p (no l) = ap (λ (t : Bool). at marked p && not t) (past p (omega arith))
+
+-- ---- the rows as `retire` leaves them, from the numbers that it was called with
+module _ (retired marked sizes : List ℕ) (place n cack : ℕ) (b : Block) (R M : List ℕ) (out : Sum) (first upto : ℕ) (first_is : first ≡ row_first place)
+    (done : Retires retired marked sizes first (names first upto b) R M out) where
+  pub at_reach : (u : ℕ) → upto ≡ u → Retires retired marked sizes (row_first place) (names (row_first place) u b) R M out
+  at_reach u e =
+      subst (λ (v : ℕ). Retires retired marked sizes (row_first place) (names (row_first place) v b) R M out) e
+      (subst (λ (a : ℕ). Retires retired marked sizes a (names a upto b) R M out) first_is done)
+
+  pub at_place : Ready retired marked sizes place n → upto ≡ 0 → reach place n cack ≡ offset place
+      → Retires retired marked sizes (row_first place) (named_by place n cack b) R M out
+  at_place ready e there =
+      subst (λ (v : ℕ). Retires retired marked sizes (row_first place) (names (row_first place) v b) R M out) (sym there)
+      (before_place retired marked sizes place n ready b R M out (at_reach 0 e))
 
 -- ---- the rows once what f names is retired
 module _ (retired marked sizes : List ℕ) (place n : ℕ) (f : ℕ → Bool) (ready : Ready retired marked sizes place n) (R M : List ℕ) (out : Sum)
@@ -100,7 +106,7 @@ module _ (retired marked sizes : List ℕ) (place n : ℕ) (f : ℕ → Bool) (r
 
     -- whole words go
     module _ (R'' M'' : List ℕ) (R_shed : Becomes R R'' (λ p. at R (64 * (t / 64) + p))) (M_shed : Becomes M M'' (λ p. at M (64 * (t / 64) + p))) where
-      pub moves : Moves retired marked sizes place n f R'' M'' (record { newly = out.newly; alarms = out.alarms; bytes = out.bytes; by = t - offset place })
+      pub moves : Moves retired marked sizes place n f R'' M'' (record { sum = out; by = t - offset place })
       moves = record {
         moved = moved;
         retired_are = record {
@@ -122,16 +128,14 @@ module _ (retired marked sizes : List ℕ) (place n cack : ℕ) (b : Block) (rea
   abbrev f : ℕ → Bool
   f = named_by place n cack b
 
-  unnamed : (p : ℕ) → false ≡ names (row_first place) 0 b p
+  unnamed : (p : ℕ) → p < bits retired → names (row_first place) 0 b p ≡ false
   unfolding names
-  unnamed p = sym (ap₂ (λ (s t : Bool). s || t) (le-ltb p 0 (omega arith)) (no_bits (row_first place) b p none))
+  unnamed p l = ap₂ (λ (s t : Bool). s || t) (le-ltb p 0 (omega arith)) (no_bits (row_first place) b p none)
 
   rows : Retires retired marked sizes (row_first place) f retired marked nothing
   rows =
-      at_front retired marked sizes place n cack b retired marked nothing (row_first place) (offset place) refl (sym there)
-      (before_place retired marked sizes place n ready b retired marked nothing
-      (retires_same retired marked sizes (row_first place) (λ p. false) (names (row_first place) 0 b) retired marked nothing ready.marked_long
-      (λ p l. unnamed p) (retires_none retired marked sizes (row_first place))))
+      at_place retired marked sizes place n cack b retired marked nothing (row_first place) 0 refl
+      (retires_nothing retired marked sizes (row_first place) (names (row_first place) 0 b) nothing ready.marked_long unnamed refl) ready refl there
 
   stays : First (is_clear retired) (offset place + n) (offset place)
   stays = record { within = omega arith; none = λ i l. ap not (ready.before i l); here = λ l. ap not ready.first_open }
@@ -139,8 +143,8 @@ module _ (retired marked sizes : List ℕ) (place n cack : ℕ) (b : Block) (rea
   whole : (W : List ℕ) → Becomes W W (λ p. at W (64 * (offset place / 64) + p))
   whole W = record { long = refl; bits_are = λ p. ap (at W) (omega arith) }
 
-  pub nothing_moves : Moves retired marked sizes place n f retired marked (record { newly = 0; alarms = 0; bytes = 0; by = 0 })
+  pub nothing_moves : Moves retired marked sizes place n f retired marked (record { sum = nothing; by = 0 })
   nothing_moves =
       let still : offset place - offset place ≡ 0 = omega arith in
-      subst (λ (m : ℕ). Moves retired marked sizes place n f retired marked (record { newly = 0; alarms = 0; bytes = 0; by = m })) still
+      subst (λ (m : ℕ). Moves retired marked sizes place n f retired marked (record { sum = nothing; by = m })) still
       (moves retired marked sizes place n f ready retired marked nothing rows (offset place) stays retired marked (whole retired) (whole marked))

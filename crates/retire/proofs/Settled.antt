@@ -59,9 +59,7 @@ acknowledge_settled retired marked sizes place n f us vs xs ys r s small-us smal
       becomes_settled retired us xs _ small-us small-xs us_are q.retired_are,
       becomes_settled marked vs ys _ small-vs small-ys vs_are q.marked_are,
       λ i. record {
-        newly = (p.counted ∙ sym q.counted) i;
-        alarms = (p.alarmed ∙ sym q.alarmed) i;
-        bytes = (p.weighed ∙ sym q.weighed) i;
+        sum = record { newly = (p.counted ∙ sym q.counted) i; alarms = (p.alarmed ∙ sym q.alarmed) i; bytes = (p.weighed ∙ sym q.weighed) i };
         by = far i;
       },
     )

@@ -1,5 +1,5 @@
 -- Rows of which a SACK retires some bits: one word of them, none, and one part after another, of which the counts add up. Assumes nothing.
-use mathlib.Core.Path.{◌≡◌, refl, sym, ap, ap₂, ◌∙◌}
+use mathlib.Core.Path.{◌≡◌, refl, sym, ap, ap₂, subst, ◌∙◌}
 use mathlib.Core.Bool.{Bool, true, false, not, cond, ◌&&◌, ◌||◌, and-true, and-false, or-false}
 use mathlib.Core.List.{List}
 use Prim.Native.Nat.{ℕ, ◌+◌, ◌*◌, ◌/◌, ◌%◌, ◌≤◌, ◌<◌}
@@ -20,7 +20,7 @@ use Rattle.retire.specs.declared.Sum.{Sum}
 use Rattle.retire.proofs.Naming.{size_on}
 
 -- ---- weights
-weigh_le : (n b : ℕ) (f : ℕ → Bool) (w : ℕ → ℕ) → ((i : ℕ) → w i ≤ b) → weigh n f w ≤ n * b
+pub weigh_le : (n b : ℕ) (f : ℕ → Bool) (w : ℕ → ℕ) → ((i : ℕ) → w i ≤ b) → weigh n f w ≤ n * b
 weigh_le n b f w h = total_le n b (λ i. cond (f i) (w i) 0) (λ i. go i (f i))
   where
     go : (i : ℕ) (t : Bool) → cond t (w i) 0 ≤ b
@@ -94,6 +94,11 @@ module _ (R M sizes : List ℕ) (first : ℕ) where
     weighed = sym (total_none (bits R) _ (λ p l. refl));
   }
 
+  -- nothing of the rows is named, and nothing counted
+  pub retires_nothing : (f : ℕ → Bool) (r : Sum) → length M ≡ length R → ((p : ℕ) → p < bits R → f p ≡ false) → r ≡ nothing → Retires R M sizes first f R M r
+  retires_nothing f r same e r_is =
+      subst (Retires R M sizes first f R M) (sym r_is) (retires_same (λ p. false) f R M nothing same (λ p l. sym (e p l)) retires_none)
+
   -- f and then g
   module _ (f g : ℕ → Bool) (R' M' : List ℕ) (a : Sum) (R'' M'' : List ℕ) (b : Sum)
       (h : Retires R M sizes first f R' M' a) (k : Retires R' M' sizes first g R'' M'' b) where
@@ -121,7 +126,7 @@ module _ (R M sizes : List ℕ) (first : ℕ) where
         once false false true x y e = omega (arith, e refl)
         once false false false x y e = omega arith
 
-    pub retires_both : Retires R M sizes first (λ p. f p || g p) R'' M'' (added a b)
+    retires_both : Retires R M sizes first (λ p. f p || g p) R'' M'' (added a b)
     retires_both = record {
       retired_are = record {
         long = k.retired_are.long ∙ h.retired_are.long;
@@ -151,6 +156,12 @@ module _ (R M sizes : List ℕ) (first : ℕ) where
         mark : (p : ℕ) → f p ≡ false → mark_by M' p ≡ mark_by M p
         mark p e =
             ap (λ (t : Bool). cond t 1 0) (h.marked_are.bits_are p ∙ ap (λ (t : Bool). at M p && not t) e ∙ and-true (at M p))
+
+    -- r is both counts, and named what f and g name
+    pub retires_added : (named : ℕ → Bool) (r : Sum) → length M ≡ length R → ((p : ℕ) → p < bits R → (f p || g p) ≡ named p) → r ≡ added a b
+        → Retires R M sizes first named R'' M'' r
+    retires_added named r same e r_is =
+        subst (Retires R M sizes first named R'' M'') (sym r_is) (retires_same (λ p. f p || g p) named R'' M'' (added a b) same e retires_both)
 
   -- one word, of which w is named, retired as `out` says, and `more` the bytes of what is new
   module _ (same : length M ≡ length R) (j w : ℕ) (l : j < length R) (out : Retired) (one : OneRetired (get_or R j 0) (get_or M j 0) w out)

@@ -55,6 +55,6 @@ pub record Moves (retired marked sizes : List ℕ) (place n : ℕ) (f : ℕ → 
   pub moved : First (λ i. not (retired_then retired f (offset place + i))) n r.by
   pub retired_are : Becomes retired retired' (λ p. retired_then retired f (front place r.by + p))
   pub marked_are : Becomes marked marked' (λ p. marked_then marked f (front place r.by + p))
-  pub counted : r.newly ≡ tally (bits retired) (fresh retired f)
-  pub alarmed : r.alarms ≡ weigh (bits retired) (fresh retired f) (mark_by marked)
-  pub weighed : r.bytes ≡ weigh (bits retired) (fresh retired f) (size_by sizes (row_first place))
+  pub counted : r.sum.newly ≡ tally (bits retired) (fresh retired f)
+  pub alarmed : r.sum.alarms ≡ weigh (bits retired) (fresh retired f) (mark_by marked)
+  pub weighed : r.sum.bytes ≡ weigh (bits retired) (fresh retired f) (size_by sizes (row_first place))

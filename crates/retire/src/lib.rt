@@ -9,11 +9,12 @@ ghost use Rattle.row.specs.Row.{longest};
 ghost use Rattle.rules.specs.Numbers.{largest_room};
 ghost use Rattle.rules.specs.Sender.{Sender, unsent as unsent_of};
 ghost use Rattle.rules.specs.Retire.{contradicts as contradicts_of, names_unsent};
-ghost use Rattle.retire.specs.Rows.{added, ahead, in_word, named_by_block, names, nothing, size_by, Alike, Fits, OneRetired, Retires};
+ghost use Rattle.retire.specs.Rows.{added, ahead, in_word, named_by_block, names, size_by, Alike, Fits, OneRetired, Retires};
 ghost use Rattle.retire.specs.Front.{named_by, Stands, Ready, Moves};
 
 use psn::{HALF, Psn, TURN};
 use rules::{Block, LARGEST_ROOM};
+use std::ops::AddAssign;
 
 // The bits of a block whose packet numbers lie n or more ahead of a number, and not behind it: the block begins o after that number.
 fn bits_ahead(o: u32, n: u32) -> u64
@@ -24,13 +25,10 @@ fn bits_ahead(o: u32, n: u32) -> u64
     }
     let at = o % TURN;
     if at < HALF {
-        let mut from = 0;
-        if at < n {
-            from = n - at;
-        }
-        return word::range(from, HALF - at);
+        word::range(n.saturating_sub(at), HALF - at)
+    } else {
+        word::range(TURN - at + n, 64)
     }
-    word::range(TURN - at + n, 64)
 }
 
 // Whether a SACK has a set bit for its cack + 1, for its cack or for a packet number behind it.
@@ -40,8 +38,7 @@ pub fn contradicts(cack: Psn, block: Block) -> bool
     if block.bitmap == 0 {
         return false;
     }
-    let base = block.base;
-    let o = cack.distance(base);
+    let o = cack.distance(block.base);
     word::without(block.bitmap, bits_ahead(o, 2)) != 0
 }
 
@@ -50,10 +47,7 @@ pub fn unsent(place: Psn, n: u32, psn: Psn) -> bool
     ensures { (x : Sender) → Stands x place.0 n → result ≡ unsent_of x psn.0 }
 {
     let i = place.after(1).distance(psn);
-    if i < n {
-        return false;
-    }
-    i < HALF
+    n <= i && i < HALF
 }
 
 // Whether a SACK names an unsent packet number.
@@ -61,20 +55,18 @@ pub fn names_unsent(place: Psn, n: u32, cack: Psn, block: Block) -> bool
     ensures { (x : Sender) → Stands x place.0 n → result ≡ names_unsent x cack.0 block }
 {
     let d = place.distance(cack);
-    if n < d {
-        if d < HALF {
-            return true;
-        }
+    if n < d && d < HALF {
+        return true;
     }
     if block.bitmap == 0 {
         return false;
     }
-    let base = block.base;
-    let o = place.after(1).distance(base);
+    let o = place.after(1).distance(block.base);
     (block.bitmap & bits_ahead(o, n)) != 0
 }
 
-// The sizes of a word's set bits added up, each looked at once; first is the packet number of its lowest bit.
+// The sizes of a word's set bits added up, each looked at once; first is the packet number of its lowest bit. A `while`, since `word` has no iterator
+// over set bits.
 fn bytes(sizes: &[u16], first: Psn, word: u64) -> u32
     requires { length sizes.now ≡ largest_room }
     ensures { result ≡ weigh 64 (bit_at word) (size_by sizes.now first.0) }
@@ -115,37 +107,28 @@ fn one(retired: u64, marked: u64, named: u64) -> Retired
 }
 
 // How many packets are newly retired, how many of them were marked, and their bytes.
-#[derive(Drop)]
+#[derive(Default, Drop)]
 pub struct Sum {
     pub newly: u32,
     pub alarms: u32,
     pub bytes: u32,
 }
 
-// Nothing is counted.
-fn none() -> Sum
-    ensures { result ≡ nothing }
-{
-    Sum {
-        newly: 0,
-        alarms: 0,
-        bytes: 0,
-    }
-}
-
 // Two counts together.
-fn plus(a: Sum, b: Sum) -> Sum
-    requires { Fits (added a b) }
-    ensures { result ≡ added a b }
-{
-    Sum {
-        newly: a.newly + b.newly,
-        alarms: a.alarms + b.alarms,
-        bytes: a.bytes + b.bytes,
+impl AddAssign for Sum {
+    ghost can_add_assign = { λ a b. Fits (added a b) };
+
+    ghost add_assign_gives = { λ a b r. r ≡ added a b };
+
+    fn add_assign(&mut self, other: Sum) {
+        self.newly += other.newly;
+        self.alarms += other.alarms;
+        self.bytes += other.bytes;
     }
 }
 
-// What a SACK names in word j is retired. Past the rows' end there is nothing.
+// What a SACK names in word j is retired. Past the rows' end there is nothing. The slices go singly, here and below: in a struct that holds them all
+// they go through memory, and a late SACK takes a fifth longer.
 fn in_word(
     retired: &mut [u64],
     marked: &mut [u64],
@@ -159,7 +142,7 @@ fn in_word(
         retired.new marked.new result }
 {
     if retired.len() <= j {
-        return none();
+        return Sum::default();
     }
     let out = one(retired[j], marked[j], named);
     retired[j] = out.retired;
@@ -179,11 +162,10 @@ fn by_block(retired: &mut [u64], marked: &mut [u64], sizes: &[u16], first: Psn, 
 {
     let bitmap = block.bitmap;
     if bitmap == 0 {
-        return none();
+        return Sum::default();
     }
-    let base = block.base;
-    let o = first.distance(base);
-    let low = in_word(
+    let o = first.distance(block.base);
+    let mut sum = in_word(
         retired,
         marked,
         sizes,
@@ -192,18 +174,17 @@ fn by_block(retired: &mut [u64], marked: &mut [u64], sizes: &[u16], first: Psn, 
         bitmap << (o % 64),
     );
     let rest = (bitmap >> 1) >> (63 - o % 64);
-    if rest == 0 {
-        return low;
+    if rest != 0 {
+        sum += in_word(
+            retired,
+            marked,
+            sizes,
+            first,
+            ((o / 64 + 1) % (TURN / 64)) as usize,
+            rest,
+        );
     }
-    let high = in_word(
-        retired,
-        marked,
-        sizes,
-        first,
-        ((o / 64 + 1) % (TURN / 64)) as usize,
-        rest,
-    );
-    plus(low, high)
+    sum
 }
 
 // All that a SACK names is retired: in the words from the rows' first to cack's, and in those of its block.
@@ -219,10 +200,9 @@ fn retire(
     ensures { Retires retired.old marked.old sizes.now first.0 (names first.0 upto block)
         retired.new marked.new result }
 {
-    let mut sum = none();
-    let mut j: u32 = 0;
-    while 64 * j < upto {
-        let more = in_word(
+    let mut sum = Sum::default();
+    for j in 0..upto.div_ceil(64) {
+        sum += in_word(
             retired,
             marked,
             sizes,
@@ -230,19 +210,15 @@ fn retire(
             j as usize,
             row::range(j, 0, upto),
         );
-        sum = plus(sum, more);
-        j += 1;
     }
-    let more = by_block(retired, marked, sizes, first, block);
-    plus(sum, more)
+    sum += by_block(retired, marked, sizes, first, block);
+    sum
 }
 
-// How many packets are newly retired, how many of them were marked, their bytes, and how far the place moves.
-#[derive(Drop)]
+// What is counted of the newly retired, and how far the place moves.
+#[derive(Default, Drop)]
 pub struct Moved {
-    pub newly: u32,
-    pub alarms: u32,
-    pub bytes: u32,
+    pub sum: Sum,
     pub by: u32,
 }
 
@@ -263,21 +239,11 @@ pub fn acknowledge(
 {
     let s = (place.0 + 1) % 64;
     let ahead = place.after(1).distance(cack);
-    let mut upto = 0;
-    if ahead < n {
-        upto = s + 1 + ahead;
-    } else {
-        let named = block.bitmap;
-        if named == 0 {
-            return Moved {
-                newly: 0,
-                alarms: 0,
-                bytes: 0,
-                by: 0,
-            };
-        }
+    let upto = if ahead < n { s + 1 + ahead } else { 0 };
+    if upto == 0 && block.bitmap == 0 {
+        return Moved::default();
     }
-    let out = retire(
+    let sum = retire(
         retired,
         marked,
         sizes,
@@ -288,11 +254,5 @@ pub fn acknowledge(
     let t = row::run_from(retired, s, row::test(retired, s), s + n);
     row::shed(retired, (t / 64) as usize);
     row::shed(marked, (t / 64) as usize);
-    let by = t - s;
-    Moved {
-        newly: out.newly,
-        alarms: out.alarms,
-        bytes: out.bytes,
-        by,
-    }
+    Moved { sum, by: t - s }
 }

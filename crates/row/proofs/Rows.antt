@@ -1,18 +1,19 @@
 -- The bits of a row, word by word: position p is bit p % 64 of word p / 64. Assumes nothing.
 use mathlib.Core.Path.{◌≡◌, sym, ap, ap₂, ◌∙◌}
-use mathlib.Core.Bool.{Bool, true, false, not, false≢true}
+use mathlib.Core.Bool.{Bool, true, false, not, ◌&&◌, false≢true}
 use mathlib.Core.List.{List}
 use Prim.Native.Nat.{ℕ, ◌+◌, ◌-◌, ◌*◌, ◌/◌, ◌%◌, ◌^◌, ◌≤◌, ◌<◌}
 use native.Mathlib.Omega.{arith}
 use native.Mathlib.Decide.{ℕ_discrete, dec_lt}
-use lib.Dec.{eqb}
-use lib.ListN.{length, get_or, set, replicate, length-replicate, get_or-replicate, get_or-eq_default}
+use lib.Dec.{eqb, ltb}
+use lib.ListN.{length, get_or, set, length-set, replicate, length-replicate, get_or-replicate, get_or-eq_default}
 use lib.Seq.{get_or-set_same, get_or-set_other}
 use borrow.Author.Tests.{eq-eqb, ne_eqb, lt-ltb, le-ltb, not-true}
+use Rattle.std.proofs.lemmas.Bool.Decides.{nat_tests}
 use Rattle.lists.specs.Index.{First}
 use Rattle.word.specs.Word.{bit_at, Bits, bit_of_two}
 use Rattle.word.proofs.Bits.{bit_none, bit_not}
-use Rattle.row.specs.Row.{at, bits, Row, is_clear}
+use Rattle.row.specs.Row.{at, bits, Row, Becomes, is_clear}
 
 -- ---- one bit
 -- bit b of word j
@@ -73,6 +74,31 @@ row_put op idle ws p v h new =
     here b l (yes e) = eq-eqb b (p % 64) e ∙ sym (eq-eqb (64 * (p / 64) + b) p (omega arith))
     here b l (no e) = ne_eqb b (p % 64) e ∙ sym (ne_eqb (64 * (p / 64) + b) p (λ q. e (omega arith)))
 
+-- the word of bit p, if the row has one, changed so
+pub row_changed : (op : Bool → Bool → Bool) → ((b : Bool) → op b false ≡ b) → (ws vs : List ℕ) (p : ℕ)
+    → (p / 64 < length ws → (v : ℕ) × Bits v (λ b. op (bit_at (get_or ws (p / 64) 0) b) (eqb b (p % 64))) × (vs ≡ set ws (p / 64) v))
+    → (length ws ≤ p / 64 → vs ≡ ws) → Becomes ws vs (λ k. op (at ws k) (eqb k p && ltb k (bits ws)))
+row_changed op idle ws vs p within past = elim (dec_lt (p / 64) (length ws)) [
+  | yes h ↦
+      let u = within h in
+      record {
+        long = ap length u.2 ∙ length-set ws (p / 64) u.0;
+        bits_are = λ k. ap (λ (l : List ℕ). at l k) u.2 ∙ row_put op idle ws p u.0 h u.1 k ∙ ap (op (at ws k)) (sym (inside k (bits ws) (omega arith)));
+      }
+  | no h ↦
+      let e = past (omega arith) in
+      record {
+        long = ap length e;
+        bits_are = λ k. ap (λ (l : List ℕ). at l k) e ∙ sym (ap (op (at ws k)) (outside k (bits ws) (omega arith)) ∙ idle (at ws k));
+      }
+]
+  where
+    inside : (k n : ℕ) → p < n → (eqb k p && ltb k n) ≡ eqb k p
+    inside k n h = grind (arith, nat_tests)
+
+    outside : (k n : ℕ) → n ≤ p → (eqb k p && ltb k n) ≡ false
+    outside k n h = grind (arith, nat_tests)
+
 -- ---- a row of zeros, and a run of ones
 pub at_zeros : (n p : ℕ) → at (replicate n 0) p ≡ false
 unfolding at
@@ -98,12 +124,11 @@ module _ (ws : List ℕ) where
   ]
 
 -- ---- a walk over whole words
--- bit b of the word at p, flipped: whether the row is clear there
-pub flipped : (ws : List ℕ) (p b : ℕ) → p % 64 ≡ 0 → b < 64 → get_or ws (p / 64) 0 < 2 ^ 64
-    → is_clear ws (p + b) ≡ bit_at ((2 ^ 64 - 1) - get_or ws (p / 64) 0) b
-flipped ws p b h l small =
+-- bit b of w, the word at p, flipped: whether the row is clear there
+pub flipped : (ws : List ℕ) (p w b : ℕ) → p % 64 ≡ 0 → w ≡ get_or ws (p / 64) 0 → w < 2 ^ 64 → b < 64 → is_clear ws (p + b) ≡ bit_at ((2 ^ 64 - 1) - w) b
+flipped ws p w b first read small l =
     let e : p + b ≡ 64 * (p / 64) + b = omega arith in
-    ap not (ap (at ws) e ∙ at_word ws (p / 64) b l) ∙ sym (bit_not 64 (get_or ws (p / 64) 0) b small l)
+    ap not (ap (at ws) e ∙ at_word ws (p / 64) b l ∙ ap (λ (v : ℕ). bit_at v b) (sym read)) ∙ sym (bit_not w b small l)
 
 -- none below p passes, and of the 64 from p on, which are those of g, none below t
 pub none_stride : (f g : ℕ → Bool) (p t : ℕ) → ((b : ℕ) → b < 64 → f (p + b) ≡ g b) → ((i : ℕ) → i < p → f i ≡ false) → First g 64 t

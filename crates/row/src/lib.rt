@@ -1,7 +1,7 @@
 // A row of 64-bit words, any number of them, by its bits. A bit past the end reads clear and is not written.
 #![tactic(auto)]
 
-ghost use Rattle.std.specs.Prelude.{◌≡◌, true, ℕ, ◌+◌, ◌-◌, ◌*◌, ◌≤◌, ◌<◌, get_or};
+ghost use Rattle.std.specs.Prelude.{◌≡◌, true, ℕ, ◌+◌, ◌-◌, ◌*◌, ◌/◌, ◌≤◌, ◌<◌, length, get_or, slice_set};
 ghost use Rattle.lists.specs.Index.{First};
 ghost use Rattle.word.specs.Word.{Bits, in_range};
 ghost use Rattle.row.specs.Row.{at as bit_of, Becomes, with_bit, without_bit, is_clear};
@@ -10,13 +10,11 @@ ghost use Rattle.row.specs.Row.{at as bit_of, Becomes, with_bit, without_bit, is
 pub fn word_at(ws: &[u64], j: usize) -> u64
     ensures { result ≡ get_or ws.now j 0 }
 {
-    if j < ws.len() {
-        return ws[j];
-    }
-    0
+    ws.get(j).copied().unwrap_or(0)
 }
 
 // Whether bit p is set.
+#[tactic(auto, unfolding(crate::specs::Row::at))]
 pub fn test(ws: &[u64], p: u32) -> bool
     ensures { result ≡ bit_of ws.now p }
 {
@@ -28,19 +26,25 @@ pub fn test(ws: &[u64], p: u32) -> bool
 pub fn set(ws: &mut [u64], p: u32)
     ensures { Becomes ws.old ws.new (with_bit ws.old p) }
 {
-    let j = (p / 64) as usize;
-    if j < ws.len() {
-        ws[j] = word::set(ws[j], p);
-    }
+    change(ws, p, |w| word::set(w, p));
 }
 
 // Bit p is cleared.
 pub fn clear(ws: &mut [u64], p: u32)
     ensures { Becomes ws.old ws.new (without_bit ws.old p) }
 {
+    change(ws, p, |w| word::clear(w, p));
+}
+
+// The word of bit p, if the row has one, becomes what f makes of it. By index: through `get_mut` of a slice no element would be known afterwards.
+fn change<F: FnOnce(u64) -> u64>(ws: &mut [u64], p: u32, f: F)
+    requires { F.IsAlwaysCallable f }
+    ensures within { p / 64 < length ws.old → (v : ℕ) × F.post f (get_or ws.old (p / 64) 0) v × (ws.new ≡ slice_set ws.old (p / 64) v) }
+    ensures past { length ws.old ≤ p / 64 → ws.new ≡ ws.old }
+{
     let j = (p / 64) as usize;
     if j < ws.len() {
-        ws[j] = word::clear(ws[j], p);
+        ws[j] = f(ws[j]);
     }
 }
 
@@ -51,7 +55,7 @@ pub fn range(j: u32, a: u32, b: u32) -> u64
     word::range(from_word(j, a), from_word(j, b))
 }
 
-// How far a lies past the first bit of word j: 0 where it does not.
+// How far a lies past the first bit of word j: 0 where it does not. As `a.saturating_sub(j.saturating_mul(64))` a late SACK is a fifth slower.
 fn from_word(j: u32, a: u32) -> u32
     ensures { result ≡ a - 64 * j }
 {
@@ -62,6 +66,7 @@ fn from_word(j: u32, a: u32) -> u32
 }
 
 // The 64 bits from bit p on.
+#[tactic(auto, using(crate::proofs::Rows::at_two))]
 pub fn block(ws: &[u64], p: u32) -> u64
     ensures { Bits result (λ i. bit_of ws.now (p + i)) }
 {
@@ -69,7 +74,8 @@ pub fn block(ws: &[u64], p: u32) -> u64
     word::across(word_at(ws, j), word_at(ws, j + 1), p)
 }
 
-// How many set bits stand below the lowest clear one, n at the most. Whole words of them are stepped over.
+// How many set bits stand below the lowest clear one, n at the most. Whole words of them are stepped over. As a `for` over the words an arrival is
+// up to a tenth slower.
 pub fn run(ws: &[u64], n: u32) -> u32
     ensures { First (is_clear ws.now) n result }
 {
@@ -104,7 +110,8 @@ pub fn run_from(ws: &[u64], s: u32, own: bool, n: u32) -> u32
     run(ws, n)
 }
 
-// The q lowest words go, and the others move down. Where none goes, nothing is touched.
+// The q lowest words go, and the others move down. Where none goes, nothing is touched. By `copy_within` and `fill` a SACK by value takes twice as
+// long.
 pub fn shed(ws: &mut [u64], q: usize)
     ensures { Becomes ws.old ws.new (λ p. bit_of ws.old (64 * q + p)) }
 {
@@ -112,13 +119,11 @@ pub fn shed(ws: &mut [u64], q: usize)
         return;
     }
     let n = ws.len();
-    let mut i: usize = 0;
-    while i < n {
+    for i in 0..n {
         if q < n - i {
             ws[i] = ws[q + i];
         } else {
             ws[i] = 0;
         }
-        i += 1;
     }
 }

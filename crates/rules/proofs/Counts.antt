@@ -4,6 +4,7 @@ use mathlib.Core.Path.{◌≡◌, refl}
 use mathlib.Core.Bool.{cond}
 use Prim.Native.Nat.{◌+◌, ◌%◌, ◌^◌}
 use lib.Dec.{ltb}
+use Rattle.std.specs.Prelude.{Ok}
 use Rattle.promise.specs.Outcome.{left}
 use Rattle.rules.specs.Receiver.{Receiver, accept, counted, sack_of, nack_of, acked, judged}
 use Rattle.rules.specs.Paper.{code, answered}
@@ -25,7 +26,7 @@ module _ (r : Receiver) (a : Arrival) where
 
   -- "Answers 0 and 1 bring a SACK, the others a NACK"; the SACK is that of the record after the event
   pub reply_by_answer : (v : Verdict)
-      → answered (judged r a v) ≡ cond (ltb (code v) 2) (answer.Acked v (sack_of (left r (judged r a v)) a)) (answer.Nacked v (nack_of v a))
+      → answered (judged r a v) ≡ Ok (cond (ltb (code v) 2) (answer.Acked v (sack_of (left r (judged r a v)) a)) (answer.Nacked v (nack_of v a)))
   unfolding judged acked answered left code
   reply_by_answer Fresh = refl
   reply_by_answer Known = refl

@@ -21,10 +21,10 @@ use Rattle.rules.specs.Numbers.{turn, after, distance}
 use Rattle.rules.specs.Sender.{Entry, Sender, outstanding, nth, index, new}
 use Rattle.rules.specs.Retire.{retire, retired, is_retired, over_newly, settle, named, after_sack, report, acknowledged}
 use Rattle.rules.specs.Sending.{sack, sack_refusals}
-use Rattle.rules.specs.Paper.{paper, answered}
+use Rattle.rules.specs.Paper.{paper}
 use Rattle.rules.specs.Kept.{Sends}
 use Rattle.rules.specs.declared.Block.{Block}
-use Rattle.promise.specs.Outcome.{left}
+use Rattle.promise.specs.Outcome.{left, on_paper}
 use Rattle.promise.proofs.Refusing.{through}
 use Rattle.rules.proofs.Allowed.{room_numbers}
 use Rattle.rules.proofs.Sends.{length_retire}
@@ -187,10 +187,10 @@ module _ (x : Sender) (cack : ℕ) (b : Block) (k : Sends x) where
 
 -- ---- the line: a SACK that is refused retires nothing, and has no fourth value
 pub fourth_value : (x : Sender) (cack : Psn) (b : Block) → Sends x
-    → get_or (paper (answered (sack x cack b))).values 3 0 ≡ tally turn (alarm x (left x (sack x cack b)))
-unfolding sack acknowledged answered left paper
+    → get_or (on_paper paper (sack x cack b)).values 3 0 ≡ tally turn (alarm x (left x (sack x cack b)))
+unfolding sack acknowledged on_paper left paper
 fourth_value x cack b k =
-    through (λ o. get_or (paper (answered o)).values 3 0 ≡ tally turn (alarm x (left x o))) (sack_refusals x cack b) (acknowledged x cack.0 b)
+    through (λ o. get_or (on_paper paper o).values 3 0 ≡ tally turn (alarm x (left x o))) (sack_refusals x cack b) (acknowledged x cack.0 b)
     (λ n. sym (total_none turn _ (λ p h. none (waits x p) (marked x p)))) (λ _. alarms_are x cack.0 b k)
   where
     none : (w m : Bool) → ◌≡◌ {A = ℕ} (cond ((w && not w) && m) 1 0) 0

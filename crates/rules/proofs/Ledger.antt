@@ -8,6 +8,7 @@ use native.Mathlib.Omega.{arith}
 use lib.Dec.{leb}
 use lib.ListN.{length, get_or, drop}
 use borrow.Author.Tests.{leb-false}
+use Rattle.std.specs.Prelude.{Ok, Err}
 use Rattle.lists.specs.Lists.{sum, lead, update, All}
 use Rattle.promise.specs.Outcome.{Outcome, Refused, left}
 use Rattle.promise.proofs.Refusing.{Past, through}
@@ -16,7 +17,7 @@ use Rattle.rules.specs.Sender.{Entry, Sender, outstanding, fresh, sent, with_ent
 use Rattle.rules.specs.Retire.{retire, retired, is_retired, settle, named, after_sack, acknowledged, over_newly, false_alarms, report}
 use Rattle.rules.specs.Marks.{mark, markable, with_mark, nacked, unmarked, nearest, resent}
 use Rattle.rules.specs.Sending.{step, send, send_refusals, sack, sack_refusals, nack, nack_refusals, timer, timer_refusals, resend, resend_refusals}
-use Rattle.rules.specs.Paper.{answered}
+use Rattle.rules.specs.Paper.{Reply, answered}
 use Rattle.rules.specs.Kept.{Good, Sends}
 use Rattle.rules.specs.declared.Answer.{Answer}
 use Rattle.rules.specs.declared.Answer.TheVariants as answer
@@ -45,26 +46,26 @@ nothing = record { set = 0; taken = 0; alarms = 0 }
 abbrev were_set : ℕ → Told
 were_set n = record { set = n; taken = 0; alarms = 0 }
 
-unfoldable pub tells : Answer → Told
-tells (answer.Refused n) = nothing
-tells answer.Started = nothing
-tells answer.Closed = nothing
-tells (answer.Sent p) = nothing
-tells (answer.Acked v k) = nothing
-tells (answer.Nacked v k) = nothing
-tells (answer.Retired k) = record { set = 0; taken = 0; alarms = k.alarms }
-tells (answer.Marked n) = were_set n
-tells (answer.Expired n) = were_set n
-tells (answer.Resent p) = record { set = 0; taken = 1; alarms = 0 }
+unfoldable pub tells : Reply → Told
+tells (Err e) = nothing
+tells (Ok answer.Started) = nothing
+tells (Ok answer.Closed) = nothing
+tells (Ok (answer.Sent p)) = nothing
+tells (Ok (answer.Acked v k)) = nothing
+tells (Ok (answer.Nacked v k)) = nothing
+tells (Ok (answer.Retired k)) = record { set = 0; taken = 0; alarms = k.alarms }
+tells (Ok (answer.Marked n)) = were_set n
+tells (Ok (answer.Expired n)) = were_set n
+tells (Ok (answer.Resent p)) = record { set = 0; taken = 1; alarms = 0 }
 
-abbrev pub set_by : Answer → ℕ
-set_by a = (tells a).set
+abbrev pub set_by : Reply → ℕ
+set_by r = (tells r).set
 
-abbrev pub taken_by : Answer → ℕ
-taken_by a = (tells a).taken
+abbrev pub taken_by : Reply → ℕ
+taken_by r = (tells r).taken
 
-abbrev pub alarms_by : Answer → ℕ
-alarms_by a = (tells a).alarms
+abbrev pub alarms_by : Reply → ℕ
+alarms_by r = (tells r).alarms
 
 -- by what a test gives
 by_test : {P : Type 0} (b : Bool) → (b ≡ true → P) → (b ≡ false → P) → P
@@ -150,20 +151,20 @@ balanced_acknowledged x cack b k =
     omega (arith, marks_retire f x.entries k.entries_good, marks_drop (retire f x.entries) (all_retire f x.entries k.entries_good))
 
 -- a NACK or a timer, whose answer tells the marks set and nothing else
-balanced_mark : (tell : ℕ → Answer) → ((n : ℕ) → tells (tell n) ≡ were_set n) → (x : Sender) (p : ℕ) → Balanced x (mark tell x p)
+balanced_mark : (tell : ℕ → Answer) → ((n : ℕ) → tells (Ok (tell n)) ≡ were_set n) → (x : Sender) (p : ℕ) → Balanced x (mark tell x p)
 unfolding mark with_entries answered left
 balanced_mark tell is x p =
     balanced_cond x (get_or (map markable x.entries) (index x p) false) _ _
     (λ m. omega (arith, marks_set x.entries (index x p) m, set 1, taken 1, alarms 1))
     (λ m. omega (arith, set 0, taken 0, alarms 0))
   where
-    set : (n : ℕ) → set_by (tell n) ≡ n
+    set : (n : ℕ) → set_by (Ok (tell n)) ≡ n
     set n = ap (λ (t : Told). t.set) (is n)
 
-    taken : (n : ℕ) → taken_by (tell n) ≡ 0
+    taken : (n : ℕ) → taken_by (Ok (tell n)) ≡ 0
     taken n = ap (λ (t : Told). t.taken) (is n)
 
-    alarms : (n : ℕ) → alarms_by (tell n) ≡ 0
+    alarms : (n : ℕ) → alarms_by (Ok (tell n)) ≡ 0
     alarms n = ap (λ (t : Told). t.alarms) (is n)
 
 balanced_nacked : (x : Sender) (p reason : ℕ) → Balanced x (nacked x p reason)
@@ -196,7 +197,7 @@ unfoldable pub after_all : Sender → List Sending → Sender
 after_all x [] = x
 after_all x (e ∷ l) = after_all (left x (step x e)) l
 
-unfoldable pub in_all : (Answer → ℕ) → Sender → List Sending → ℕ
+unfoldable pub in_all : (Reply → ℕ) → Sender → List Sending → ℕ
 in_all w x [] = 0
 in_all w x (e ∷ l) = w (answered (step x e)) + in_all w (left x (step x e)) l
 

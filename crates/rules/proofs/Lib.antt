@@ -21,6 +21,7 @@ pub mod Writing
 pub mod RoundTrip
 pub mod Replays
 pub mod Apart
+pub mod Tried
 pub mod Settled
 pub mod Numbered
 pub mod Seventeen

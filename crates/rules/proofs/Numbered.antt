@@ -34,9 +34,7 @@ use Rattle.rules.specs.declared.Use.{Use}
 use Rattle.rules.specs.declared.Use.TheVariants as use-of
 use Rattle.rules.specs.declared.Event.{Event}
 use Rattle.rules.specs.declared.Event.TheVariants as event
-use Rattle.rules.specs.declared.Read.TheVariants.{Record, Nothing}
-use Rattle.rules.specs.declared.Written.{Written}
-use Rattle.rules.specs.declared.Written.TheVariants as writing
+use Rattle.rules.specs.Outcomes.{Record, Nothing, Writing, NotWritten, Length}
 
 -- ---- what is done where nothing refuses: its answer is no refusal
 pub record Does {S : Type 0} (o : Outcome Answer S) : Type 0 where
@@ -166,7 +164,7 @@ read_first log place =
     six (ltb longest_log (length log)) (leb (length log) place) (ltb (length l) 3) (not (has_mark l)) (not (kind_ok kind))
     (ltb (length l) (whole kind)) _ _ _ _
 
-two : (a b : Bool) (n : ℕ) → (written_line (cond a (writing.Refused 5) (cond b (writing.Refused 16) (writing.Length n)))).number
+two : (a b : Bool) (n : ℕ) → (written_line (cond a (NotWritten 5) (cond b (NotWritten 16) (Length n)))).number
     ≡ first_of ((a, 5) ∷ (b, 16) ∷ [])
 unfolding written_line first_of
 two true b n = refl
@@ -178,7 +176,7 @@ unfolding write write_refusals
 write_first e n = two (high_psn (layout (kind_of e)) (fields_of e)) (ltb n (whole (kind_of e))) (whole (kind_of e))
 
 -- a refused writer leaves the buffer
-pub refused_written : (slot : ℕ) (e : Event) (buffer : List ℕ) (w : Written) → (written_line w).number ≢ 0 → written slot e buffer w ≡ buffer
+pub refused_written : (slot : ℕ) (e : Event) (buffer : List ℕ) (w : Writing) → (written_line w).number ≢ 0 → written slot e buffer w ≡ buffer
 unfolding written_line written
-refused_written slot e buffer (writing.Refused n) h = refl
-refused_written slot e buffer (writing.Length n) h = absurd (h refl)
+refused_written slot e buffer (NotWritten n) h = refl
+refused_written slot e buffer (Length n) h = absurd (h refl)

@@ -12,7 +12,7 @@ use Rattle.fields.specs.Fields as fields
 use Rattle.rules.specs.Kinds.{widths, kind_ok, event_of}
 use Rattle.rules.specs.Log.{whole, has_mark, read_left, read}
 use Rattle.rules.specs.declared.Event.{Event}
-use Rattle.rules.specs.declared.Read.TheVariants.{Record, Nothing}
+use Rattle.rules.specs.Outcomes.{Record, Nothing}
 use Rattle.lists.proofs.Joined.{and_true_each, passed}
 use Rattle.rules.proofs.Records.{Begins}
 

@@ -10,14 +10,13 @@ use Rattle.rules.specs.Connection.{Connection}
 use Rattle.rules.specs.Table.{on}
 use Rattle.rules.specs.Log.{read}
 use Rattle.rules.specs.Replay.{Replayed, then, replied, replay_from}
-use Rattle.rules.specs.declared.Read.{Read}
-use Rattle.rules.specs.declared.Read.TheVariants.{Record, Nothing}
+use Rattle.rules.specs.Outcomes.{Reading, Record, Nothing}
 use Rattle.rules.proofs.RoundTrip.{read_kind}
 
 -- one record on: what is left has fallen
 replied_same : (log : List ℕ) (t : List Connection) (place n : ℕ) (f g : List Connection → ℕ → Replayed)
     → ((u : List Connection) (next : ℕ) → length log - next < length log - place → f u next ≡ g u next)
-    → (r : Read) → read log place ≡ r → replied f t place n r ≡ replied g t place n r
+    → (r : Reading) → read log place ≡ r → replied f t place n r ≡ replied g t place n r
 unfolding replied
 replied_same log t place n f g h (Record slot e kind next) k =
     let moved = read_kind log place slot e kind next k in

@@ -11,15 +11,14 @@ use Rattle.fields.proofs.Spelling.{bytes_drop}
 use Rattle.rules.specs.Kinds.{kind_of, Wide}
 use Rattle.rules.specs.Log.{whole, encode, read, write, written}
 use Rattle.rules.specs.declared.Event.{Event}
-use Rattle.rules.specs.declared.Read.TheVariants.{Record}
-use Rattle.rules.specs.declared.Written.TheVariants as writing
+use Rattle.rules.specs.Outcomes.{Record, Length}
 use Rattle.rules.proofs.Records.{length_encode, encode_begins, begins_kind, begins_wide, begins_low, begins_encode}
 use Rattle.rules.proofs.Reading.{read_holds, holds_read}
 use Rattle.rules.proofs.Writing.{write_writable, writable_write}
 
 -- "A log record written is read back as the same event": wherever it stands in a log
 pub encode_read : (slot : ℕ) (e : Event) (before after : List ℕ) (n : ℕ) → Wide e
-    → write e n ≡ writing.Length (whole (kind_of e)) → length (before ++ (encode slot e ++ after)) ≤ longest_log
+    → write e n ≡ Length (whole (kind_of e)) → length (before ++ (encode slot e ++ after)) ≤ longest_log
     → read (before ++ (encode slot e ++ after)) (length before) ≡ Record slot e (kind_of e) (length before + whole (kind_of e))
 encode_read slot e before after n f w l =
     let low = (write_writable e n (whole (kind_of e)) w).0.low in
@@ -28,15 +27,15 @@ encode_read slot e before after n f w l =
 
 -- and in the buffer that it was written to
 pub write_read : (slot : ℕ) (e : Event) (buffer : List ℕ) (n : ℕ) → Wide e
-    → length buffer ≤ longest_log → write e (length buffer) ≡ writing.Length n
-    → read (written slot e buffer (writing.Length n)) 0 ≡ Record slot e (kind_of e) n
+    → length buffer ≤ longest_log → write e (length buffer) ≡ Length n
+    → read (written slot e buffer (Length n)) 0 ≡ Record slot e (kind_of e) n
 unfolding written
 write_read slot e buffer n f l w =
     let a = write_writable e (length buffer) n w in
     let m : n ≡ whole (kind_of e) = a.1 in
     let long : length (encode slot e ++ drop n buffer) ≤ longest_log =
     omega (arith, a.0.room, length-append (encode slot e) (drop n buffer), length_encode slot e, length-drop n buffer) in
-    encode_read slot e [] (drop n buffer) (length buffer) f (w ∙ ap writing.Length m) long ∙ ap (Record slot e (kind_of e)) (omega arith)
+    encode_read slot e [] (drop n buffer) (length buffer) f (w ∙ ap Length m) long ∙ ap (Record slot e (kind_of e)) (omega arith)
 
 -- what is read has the kind that it says, and fits
 pub read_kind : (log : List ℕ) (place slot : ℕ) (e : Event) (kind next : ℕ) → read log place ≡ Record slot e kind next
@@ -59,13 +58,13 @@ read_encode log place slot e kind next b h =
 
 pub read_write : (log : List ℕ) (place slot : ℕ) (e : Event) (kind next : ℕ) (buffer : List ℕ) → Bytes log
     → read log place ≡ Record slot e kind next → next - place ≤ length buffer
-    → (write e (length buffer) ≡ writing.Length (next - place))
+    → (write e (length buffer) ≡ Length (next - place))
     × (written slot e buffer (write e (length buffer)) ≡ take (next - place) (drop place log) ++ drop (next - place) buffer)
 unfolding written
 read_write log place slot e kind next buffer b h l =
     let r = read_holds log place slot e kind next h in
     let n : whole (kind_of e) ≡ next - place = ap whole (begins_kind (drop place log) slot e kind r.begins) ∙ omega (arith, r.next_is) in
     let low = begins_low (drop place log) slot e kind r.begins in
-    let w : write e (length buffer) ≡ writing.Length (next - place) =
-    writable_write e (length buffer) (record { low = low; room = omega arith }) ∙ ap writing.Length n in
+    let w : write e (length buffer) ≡ Length (next - place) =
+    writable_write e (length buffer) (record { low = low; room = omega arith }) ∙ ap Length n in
     (w, rw w (ap (λ (x : List ℕ). x ++ drop (next - place) buffer) (read_encode log place slot e kind next b h)))

@@ -1,6 +1,6 @@
 -- A connection is empty on both sides or in use on both, whatever the event: an empty one refuses all but a start, and any other event
 -- touches one side. So is every slot of a table. Assumes nothing.
-use mathlib.Core.Path.{◌≡◌, refl, sym, ap, ◌∙◌, subst}
+use mathlib.Core.Path.{◌≡◌, refl, sym, subst}
 use mathlib.Core.Bool.{false}
 use mathlib.Core.List.{List}
 use mathlib.Core.Logic.{inl, inr}

@@ -1,21 +1,19 @@
 -- 02, No. 3, of every record: an event of the sending side is answered 17 exactly when it is a SACK that contradicts itself and neither 2 nor
 -- 5 comes before. "It is checked after 5 and before 8, and not given otherwise." Assumes nothing.
-use mathlib.Core.Path.{◌≡◌, refl, sym, ap, ◌∙◌}
+use mathlib.Core.Path.{◌≡◌, refl, ap, ◌∙◌}
 use mathlib.Core.Bool.{Bool, true, false, not, ◌&&◌}
 use mathlib.Core.List.{[], ◌∷◌}
 use Prim.Native.Nat.{ℕ}
 use lib.Dec.{eqb}
 use Rattle.lists.specs.Lists.{All}
-use Rattle.promise.specs.Line.{Line}
-use Rattle.promise.specs.Outcome.{Refusals, first_of}
+use Rattle.promise.specs.Outcome.{Refusals, first_of, on_paper}
 use Rattle.rules.specs.Numbers.{psn_ok}
 use Rattle.rules.specs.Sender.{Sender, unused}
 use Rattle.rules.specs.Retire.{contradicts}
 use Rattle.rules.specs.Sending.{step, step_refusals, send_refusals, sack_refusals, nack_refusals, timer_refusals, resend_refusals}
-use Rattle.rules.specs.Paper.{paper, answered}
+use Rattle.rules.specs.Paper.{paper}
 use Rattle.rules.specs.declared.Sending.{Sending}
 use Rattle.rules.specs.declared.Sending.TheVariants as sending
-use Rattle.rules.proofs.Settled.{answered_paper}
 use Rattle.rules.proofs.Numbered.{number_first, sending_splits}
 
 -- "any SACK with a set bit" so, "checked after 5"
@@ -54,8 +52,5 @@ by_list x (sending.Nack p reason) = other (nack_refusals x p reason) (refl, (ref
 by_list x (sending.Timer p) = other (timer_refusals x p) (refl, (refl, (refl, tt)))
 by_list x sending.Resend = other (resend_refusals x) (refl, (refl, tt))
 
-pub seventeen : (x : Sender) (e : Sending) → eqb (paper (answered (step x e))).number 17 ≡ contradicted x e
-seventeen x e =
-    let number : (paper (answered (step x e))).number ≡ first_of (step_refusals x e) =
-    ap (λ (l : Line). l.number) (sym (answered_paper (step x e))) ∙ number_first (sending_splits x e) in
-    ap (λ (n : ℕ). eqb n 17) number ∙ by_list x e
+pub seventeen : (x : Sender) (e : Sending) → eqb (on_paper paper (step x e)).number 17 ≡ contradicted x e
+seventeen x e = ap (λ (n : ℕ). eqb n 17) (number_first (sending_splits x e)) ∙ by_list x e

@@ -8,7 +8,7 @@ use lib.Dec.{ltb}
 use Rattle.rules.specs.Kinds.{kind_of, fields_of, layout}
 use Rattle.rules.specs.Log.{whole, high_psn, write}
 use Rattle.rules.specs.declared.Event.{Event}
-use Rattle.rules.specs.declared.Written.TheVariants.{Refused, Length}
+use Rattle.rules.specs.Outcomes.{NotWritten, Length}
 use Rattle.lists.proofs.Joined.{passed}
 
 -- nothing keeps the event from a buffer of n bytes
@@ -16,7 +16,7 @@ pub record Writable (e : Event) (n : ℕ) : Type 0 where
   pub low : high_psn (layout (kind_of e)) (fields_of e) ≡ false
   pub room : whole (kind_of e) ≤ n
 
-no_length : (n m : ℕ) → Refused n ≡ Length m → ⊥
+no_length : (n m : ℕ) → NotWritten n ≡ Length m → ⊥
 no_length n m h = let z : ◌≡◌ {A = ℕ} 0 1 = cc in omega arith
 
 pub write_writable : (e : Event) (n m : ℕ) → write e n ≡ Length m → Writable e n × (m ≡ whole (kind_of e))

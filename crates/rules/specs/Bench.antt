@@ -12,7 +12,7 @@ use Rattle.rules.specs.Sender.{Sender}
 use Rattle.rules.specs.Retire.{report}
 use Rattle.rules.specs.Connection.{Connection, empty, start, step}
 use Rattle.rules.specs.Kinds.{plain}
-use Rattle.rules.specs.Paper.{answered, paper, read_line}
+use Rattle.rules.specs.Paper.{answered, reply_line, read_line}
 use Rattle.rules.specs.Log.{read, whole}
 use Rattle.rules.specs.Replay.{Replied, Last, End, Log, replay}
 use Rattle.rules.specs.Limits.{Limits}
@@ -20,7 +20,7 @@ use Rattle.rules.specs.declared.Report.{Report}
 use Rattle.rules.specs.declared.Sending.TheVariants.{Send, Sack, Nack, Timer, Resend}
 use Rattle.rules.specs.declared.Use.{Use}
 use Rattle.rules.specs.declared.Use.TheVariants.{Sends, Receives}
-use Rattle.rules.specs.declared.Read.TheVariants.{Record, Nothing}
+use Rattle.rules.specs.Outcomes.{Record, Nothing}
 
 -- a row's name on the bench: R1 to R6, S1 to S5, what is given before the first, and what follows the last: a packet that comes again, a
 -- SACK that comes late; a SACK of which half might be retired; a NACK's reason, which no line of a log shows; a SACK whose one set bit lies
@@ -63,7 +63,7 @@ kept expected room window count = done 0 (expected ∷ room ∷ window ∷ count
 unfoldable pub lines : Connection → List Row → List Line
 lines c [] = []
 lines c (r ∷ l) = elim r.asked [
-  | Event e ↦ paper (answered (step c e)) ∷ lines (left c (step c e)) l
+  | Event e ↦ reply_line (answered (step c e)) ∷ lines (left c (step c e)) l
   | Look ↦ kept c.receiver.expected (room c.receiver) (pack c.receiver.window) c.receiver.count ∷ lines c l
 ]
 
@@ -88,7 +88,7 @@ ends (Log r o) = done r (o ∷ []) []
 
 unfoldable pub answers : List Replied → Last → List Line
 answers [] last = ends last ∷ []
-answers (r ∷ l) last = paper r.answer ∷ answers l last
+answers (r ∷ l) last = reply_line r.answer ∷ answers l last
 
 unfoldable pub told : Case → List Line
 told (Events l) = lines bench l

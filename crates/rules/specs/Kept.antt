@@ -1,5 +1,5 @@
 -- 01, What the card keeps: "A record is empty (all zero) or comes from a start and the events after it". What such a record always has.
-use Rattle.std.specs.Prelude.{◌≡◌, true, false, ◌&&◌, List, [], ◌∷◌, map, ◌⊎◌, ℕ, ◌^◌, ◌≤◌, ◌<◌, get_or}
+use Rattle.std.specs.Prelude.{◌≡◌, true, false, ◌&&◌, List, map, ◌⊎◌, ℕ, ◌^◌, ◌≤◌, ◌<◌, get_or}
 use Rattle.rules.specs.Numbers.{turn, room_ok, size_ok}
 use Rattle.rules.specs.Receiver.{Receiver, room}
 use Rattle.rules.specs.Sender.{Entry, Sender, outstanding}

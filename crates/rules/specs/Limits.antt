@@ -4,13 +4,13 @@ use Rattle.rules.specs.Numbers.{slots, program_slots, psn}
 use Rattle.rules.specs.Connection.{empty}
 use Rattle.rules.specs.Kinds.{plain}
 use Rattle.rules.specs.Table.{on}
-use Rattle.rules.specs.Paper.{answered, paper}
+use Rattle.rules.specs.Paper.{answered, reply_line}
 use Rattle.rules.specs.Replay.{Replied, replay}
 use Rattle.rules.specs.declared.Event.TheVariants as event
 
 -- the number that a start with these two rooms gets in a slot of a table of so many, all empty
 abbrev pub started : ℕ → ℕ → ℕ → ℕ → ℕ
-started many slot send receive = (paper (answered (on (replicate many empty) slot (event.Start (record {
+started many slot send receive = (reply_line (answered (on (replicate many empty) slot (event.Start (record {
   sending = record { room = send; first = psn 10 };
   receiving = record { room = receive; first = psn 10 };
   options = plain;
@@ -44,7 +44,7 @@ abbrev pub log_slots : List ℕ
 log_slots = 0x4D ∷ 0x52 ∷ 2 ∷ 3 ∷ 0x4D ∷ 0x52 ∷ 2 ∷ 4 ∷ 0x4D ∷ 0x52 ∷ 2 ∷ 15 ∷ 0x4D ∷ 0x52 ∷ 2 ∷ 16 ∷ []
 
 abbrev pub replied_number : Replied → ℕ
-replied_number l = (paper l.answer).number
+replied_number l = (reply_line l.answer).number
 
 -- "Refusal 4 moves accordingly"; "The replay program keeps 4 slots .. and answers 1 for slot 4 and above; the library still allows 16"
 pub record Limits : Type 0 where

@@ -7,10 +7,7 @@ use Rattle.rules.specs.Kinds.{kind_of, fields_of, event_of, layout, widths, kind
 use Rattle.rules.specs.declared.Event.{Event}
 use Rattle.rules.specs.declared.Cell.{Cell}
 use Rattle.rules.specs.declared.Cell.TheVariants as cell
-use Rattle.rules.specs.declared.Read.{Read}
-use Rattle.rules.specs.declared.Read.TheVariants.{Record, Nothing}
-use Rattle.rules.specs.declared.Written.{Written}
-use Rattle.rules.specs.declared.Written.TheVariants as writing
+use Rattle.rules.specs.Outcomes.{Reading, Record, Nothing, Writing, NotWritten, Length}
 
 -- the mark, the kind, the slot, and the fields
 abbrev pub whole : ℕ → ℕ
@@ -25,7 +22,7 @@ abbrev pub has_mark : List ℕ → Bool
 has_mark l = eqb (get_or l 0 0) 0x4D && eqb (get_or l 1 0) 0x52
 
 -- the bytes l are left at the place: "with 1 or 2 bytes left 10, then 11, 12, 10"
-unfoldable pub read_left : List ℕ → ℕ → Read
+unfoldable pub read_left : List ℕ → ℕ → Reading
 read_left l place =
     let kind = get_or l 2 0 in
     cond (ltb (length l) 3) (Nothing 10)
@@ -35,12 +32,12 @@ read_left l place =
     (Record (get_or l 3 0) (event_of kind (fields.decode (widths kind) (drop record_head l))) kind (place + whole kind)))))
 
 -- "Log reading: 13, then ..". "With none left, or a place past the end, the log is at its end, no refusal"
-unfoldable pub read : List ℕ → ℕ → Read
+unfoldable pub read : List ℕ → ℕ → Reading
 read log place =
     cond (ltb longest_log (length log)) (Nothing 13) (cond (leb (length log) place) (Nothing 0) (read_left (drop place log) place))
 
 -- "a record's body, from the slot byte on, as that part of the lent log itself; on refusal or at the end, an empty part"
-unfoldable pub body : List ℕ → ℕ → Read → List ℕ
+unfoldable pub body : List ℕ → ℕ → Reading → List ℕ
 body log place (Record slot e kind next) = take (next - (place + 3)) (drop (place + 3) log)
 body log place (Nothing n) = []
 
@@ -56,12 +53,12 @@ high_psn (c ∷ cs) [] = false
 high_psn (c ∷ cs) (v ∷ vs) = high_cell c v || high_psn cs vs
 
 -- "Log writing: 5, then 16; .. the length is the answer", for a buffer of n bytes
-unfoldable pub write : Event → ℕ → Written
+unfoldable pub write : Event → ℕ → Writing
 write e n =
-    cond (high_psn (layout (kind_of e)) (fields_of e)) (writing.Refused 5)
-    (cond (ltb n (whole (kind_of e))) (writing.Refused 16) (writing.Length (whole (kind_of e))))
+    cond (high_psn (layout (kind_of e)) (fields_of e)) (NotWritten 5)
+    (cond (ltb n (whole (kind_of e))) (NotWritten 16) (Length (whole (kind_of e))))
 
 -- the buffer after: "from the buffer's first byte; .. later bytes stay"
-unfoldable pub written : ℕ → Event → List ℕ → Written → List ℕ
-written slot e buffer (writing.Refused n) = buffer
-written slot e buffer (writing.Length n) = encode slot e ++ drop n buffer
+unfoldable pub written : ℕ → Event → List ℕ → Writing → List ℕ
+written slot e buffer (NotWritten n) = buffer
+written slot e buffer (Length n) = encode slot e ++ drop n buffer

@@ -4,19 +4,17 @@ use Rattle.rules.specs.Numbers.{program_slots, longest_log}
 use Rattle.promise.specs.Outcome.{left}
 use Rattle.rules.specs.Connection.{Connection, empty}
 use Rattle.rules.specs.Table.{on}
-use Rattle.rules.specs.Paper.{paper, answered}
+use Rattle.rules.specs.Paper.{Reply, reply_line, answered}
 use Rattle.rules.specs.Log.{read}
-use Rattle.rules.specs.declared.Answer.{Answer}
-use Rattle.rules.specs.declared.Read.{Read}
-use Rattle.rules.specs.declared.Read.TheVariants.{Record, Nothing}
+use Rattle.rules.specs.Outcomes.{Reading, Record, Nothing}
 
 -- "a line per record: kind, answer and, if 0, values"
 pub record Replied : Type 0 where
   pub kind : ℕ
-  pub answer : Answer
+  pub answer : Reply
 
 unfoldable pub line : Replied → List ℕ
-line l = l.kind ∷ (paper l.answer).number ∷ (paper l.answer).values
+line l = l.kind ∷ (reply_line l.answer).number ∷ (reply_line l.answer).values
 
 -- "Last `end N`, N the records read, or instead `log R at O`, R the refusal, with O the offset of the bad record's first byte"
 pub data Last : Type 0 where
@@ -36,7 +34,7 @@ unfoldable pub then : Replied → Replayed → Replayed
 then l r = record { lines = l ∷ r.lines; last = r.last }
 
 -- what is read at the place, after n records: one is answered, and the rest follows from the place after it
-unfoldable pub replied : (List Connection → ℕ → Replayed) → List Connection → ℕ → ℕ → Read → Replayed
+unfoldable pub replied : (List Connection → ℕ → Replayed) → List Connection → ℕ → ℕ → Reading → Replayed
 replied rest t place n (Record slot e kind next) = then (record { kind = kind; answer = answered (on t slot e) }) (rest (left t (on t slot e)) next)
 replied rest t place n (Nothing r) = record { lines = []; last = stop r place n }
 

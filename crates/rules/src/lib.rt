@@ -1,6 +1,11 @@
 // The plain types that the crates share: events, answers, what a log's reader and writer give. Document 01 as definitions over them stands in specs/.
 #![tactic(auto)]
 
+ghost use Rattle.std.specs.Prelude.{◌≡◌, cond, Ok, Err, MatchResult};
+ghost use Rattle.rules.specs.Numbered.{kind_number, kind_of_number, number};
+ghost use Rattle.rules.specs.Kinds.{kind_ok};
+ghost use Rattle.rules.specs.declared.Refusal.TheVariants.{UnknownKind};
+
 use psn::Psn;
 
 // How many slots of a table are used at the most.
@@ -25,9 +30,10 @@ pub const LARGEST_SIZE: u16 = 9216;
 // The longest log in bytes.
 pub const LONGEST_LOG: usize = 32_768;
 
-// How many kinds of record a log has, from 1 on, and the bytes of a record before its fields.
-pub const KINDS: u8 = 8;
+// The mark that a record begins with.
+pub const MARK: [u8; 2] = *b"MR";
 
+// The bytes of a record before its fields.
 pub const RECORD_HEAD: usize = 4;
 
 // A packet's flags by their bits, and the first number that has another bit.
@@ -83,6 +89,7 @@ pub struct Start {
 pub enum Sending {
     Send { size: u16 },
     Sack { cack: Psn, block: Block },
+    // The reason is any number, which a refusal judges.
     Nack { psn: Psn, reason: u8 },
     Timer { psn: Psn },
     Resend,
@@ -104,6 +111,48 @@ pub enum Use {
 pub enum Event {
     Start(Start),
     Use(Use),
+}
+
+// The kinds of an event, each with its number in a record of a log.
+#[derive(Clone, Copy, Debug, PartialEq, Eq)]
+pub enum Kind {
+    Start = 1,
+    Close = 2,
+    Send = 3,
+    Arrive = 4,
+    Sack = 5,
+    Nack = 6,
+    Timer = 7,
+    Resend = 8,
+}
+
+impl Kind {
+    // Its number.
+    pub fn number(self) -> u8
+        ensures { result ≡ kind_number self }
+    {
+        self as u8
+    }
+}
+
+impl TryFrom<u8> for Kind {
+    type Error = Refusal;
+
+    ghost try_from_gives = { λ n r. r ≡ cond (kind_ok n) (Ok (kind_of_number n)) (Err UnknownKind) };
+
+    fn try_from(number: u8) -> Result<Kind, Refusal> {
+        match number {
+            1 => Ok(Kind::Start),
+            2 => Ok(Kind::Close),
+            3 => Ok(Kind::Send),
+            4 => Ok(Kind::Arrive),
+            5 => Ok(Kind::Sack),
+            6 => Ok(Kind::Nack),
+            7 => Ok(Kind::Timer),
+            8 => Ok(Kind::Resend),
+            _ => Err(Refusal::UnknownKind),
+        }
+    }
 }
 
 // How an arrival is judged.
@@ -148,11 +197,62 @@ pub struct Report {
     pub alarms: u32,
 }
 
-// The answer to an event.
+// Why the card says no: document 01's refusals, each with its number.
+#[derive(Clone, Copy, Debug, PartialEq, Eq)]
+pub enum Refusal {
+    // The slot is none of the table's, or none of those that are used.
+    NoSuchSlot = 1,
+    // The slot, or the record, is of no connection.
+    NotInUse = 2,
+    // A start of a slot that is in use.
+    InUse = 3,
+    // A room that is too small, too large or no multiple of the smallest.
+    BadRoom = 4,
+    // A packet number that is not below TURN.
+    BadPsn = 5,
+    // A packet size that is too small or too large.
+    BadSize = 6,
+    // As many packets are outstanding as the sending room holds.
+    RoomFull = 7,
+    // A packet number that was not sent.
+    NeverSent = 8,
+    // No packet is marked for resending.
+    NothingMarked = 9,
+    // The log ends inside a record.
+    CutShort = 10,
+    // A record does not begin with the mark.
+    NoMark = 11,
+    UnknownKind = 12,
+    LogTooLong = 13,
+    // Flags that no packet has.
+    BadFlags = 14,
+    // A NACK's reason that is none.
+    BadReason = 15,
+    // The buffer is shorter than the record to be written.
+    BufferTooShort = 16,
+    // A SACK that contradicts itself.
+    Contradiction = 17,
+}
+
+impl Refusal {
+    // Its number in document 01.
+    pub fn number(self) -> u8
+        ensures { result ≡ number self }
+    {
+        self as u8
+    }
+
+    // Nothing where a test holds, and else this refusal.
+    pub fn unless(self, holds: bool) -> Result<(), Refusal>
+        ensures { result ≡ cond holds (Ok tt) (Err self) }
+    {
+        if holds { Ok(()) } else { Err(self) }
+    }
+}
+
+// The answer to an event that is not refused.
 #[derive(Clone, Copy)]
 pub enum Answer {
-    // The number of the refusal.
-    Refused(u8),
     Started,
     Closed,
     // The packet number that a send was given.
@@ -168,6 +268,33 @@ pub enum Answer {
     Resent(Psn),
 }
 
+// What an event hands back: the answer or the refusal, and the next state of the record that it used up.
+#[derive(Clone, Copy)]
+pub struct Stepped<R> {
+    pub answer: Result<Answer, Refusal>,
+    pub next: R,
+}
+
+impl<R: Copy> Stepped<R> {
+    // What a start hands back: the record that it opened; or the refusal, and the record of no connection.
+    pub fn started(opened: Result<R, Refusal>, none: R) -> Stepped<R>
+        ensures { MatchResult opened
+            (λ r. (result.answer ≡ Ok Answer.Started) × (result.next ≡ r))
+            (λ e. (result.answer ≡ Err e) × (result.next ≡ none)) }
+    {
+        match opened {
+            Ok(next) => Stepped {
+                answer: Ok(Answer::Started),
+                next,
+            },
+            Err(refusal) => Stepped {
+                answer: Err(refusal),
+                next: none,
+            },
+        }
+    }
+}
+
 // A field of a record: a packet number, or a number of so many bits.
 #[derive(Clone, Copy)]
 pub enum Cell {
@@ -175,24 +302,11 @@ pub enum Cell {
     Bits(u8),
 }
 
-// What reading a log at a place gives.
+// A record of a log: its slot, its event, the event's kind, and the place after it.
 #[derive(Clone, Copy)]
-pub enum Read {
-    Record {
-        slot: u8,
-        event: Event,
-        kind: u8,
-        next: usize,
-    },
-    // No record: the number of the refusal, 0 at the log's end.
-    Nothing(u8),
-}
-
-// What writing a record gives.
-#[derive(Clone, Copy)]
-pub enum Written {
-    // The number of the refusal.
-    Refused(u8),
-    // The record's length.
-    Length(usize),
+pub struct Record {
+    pub slot: u8,
+    pub event: Event,
+    pub kind: Kind,
+    pub next: usize,
 }

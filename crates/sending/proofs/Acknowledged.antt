@@ -3,12 +3,15 @@
 use mathlib.Core.Path.{◌≡◌, refl, sym, ap, ap₂, subst, ◌∙◌}
 use mathlib.Core.Bool.{Bool, true, false, not, cond, ◌&&◌, ◌||◌, false≢true, or-true, or-false, and-true, and-false}
 use mathlib.Core.List.{List, map}
+use mathlib.Core.Logic.{inr}
 use Prim.Native.Nat.{ℕ, suc, ◌+◌, ◌-◌, ◌%◌, ◌≤◌, ◌<◌}
 use native.Mathlib.Omega.{arith}
 use native.Mathlib.Decide.{dec_lt}
 use lib.Dec.{ltb, leb}
 use lib.ListN.{length, get_or, drop}
 use borrow.Author.Tests.{lt-ltb, le-ltb, leb-true, lt-leb, ltb-true, not-true, not-false}
+use Rattle.std.specs.Prelude.{Ok}
+use Rattle.promise.proofs.Meeting.{does}
 use Rattle.psn.specs.declared.Psn.{Psn}
 use Rattle.psn.specs.Psn.{turn, half, after, distance}
 use Rattle.psn.proofs.Circle.{after_lt, after_after, after_turn, distance_after, ahead as ahead_by}
@@ -25,14 +28,21 @@ use Rattle.rules.specs.Numbers.{psn, size_ok, largest_room}
 use Rattle.rules.specs.Sender.{Entry, size_held, held, unsent}
 use Rattle.rules.specs.Sender as rule
 use Rattle.rules.specs.Retire.{any_set, unsent_cack, unsent_bit, names_unsent, up_to, has_bit, named, retired, retire, newly, false_alarms, is_retired, settle, after_sack, report}
+use Rattle.rules.specs.Retire as sacks
+use Rattle.rules.specs.Sending.{step}
+use Rattle.rules.specs.declared.Answer.{Answer}
+use Rattle.rules.specs.declared.Answer.TheVariants as answer
 use Rattle.rules.specs.declared.Block.{Block}
+use Rattle.rules.specs.declared.Report.{Report}
+use Rattle.rules.specs.declared.Sending.TheVariants as sending
 use Rattle.rules.proofs.Entries.{retire_table, newly_table}
 use Rattle.retire.specs.Rows.{names, fresh, mark_by, size_by}
 use Rattle.retire.specs.Front.{row_first, reach, named_by, retired_then, marked_then, front, Moves}
 use Rattle.retire.specs.declared.Moved.{Moved}
 use Rattle.retire.proofs.Naming.{size_on}
 use Rattle.retire.proofs.Judged.{is_past}
-use Rattle.sending.specs.Lent.{Lent, meaning, entry, offset, size_at, Started}
+use Rattle.sending.specs.declared.Head.{Head}
+use Rattle.sending.specs.Lent.{Lent, meaning, entry, offset, size_at, Started, sizes_after, Steps, Acknowledges}
 use Rattle.sending.proofs.Entries.{same_entry, length_entries, held_total, stands}
 
 -- ---- numbers: the rows begin at the packet number `row_first` of a place a
@@ -98,15 +108,10 @@ up_to_le x cack = by (leb d n) refl
     by false e = rw e (omega arith)
 
 -- a started record whose rows such a SACK has left so
-pub record RowsRetired (x : Lent) (cack : ℕ) (b : Block) (R'' M'' : List ℕ) (out : Moved) : Type 0 where
-  pub started : Started x
-  pub none_unsent : names_unsent (meaning x) cack b ≡ false
-  pub rows : Moves x.retired x.marked x.sizes x.head.place.0 x.head.outstanding
-      (named_by x.head.place.0 x.head.outstanding cack b) R'' M'' out
-
-module _ (x : Lent) (cack : ℕ) (b : Block) (R'' M'' : List ℕ) (out : Moved) (all : RowsRetired x cack b R'' M'' out) where
+module _ (x : Lent) (cack : ℕ) (b : Block) (R'' M'' : List ℕ) (out : Moved) (asked : Started x × (names_unsent (meaning x) cack b ≡ false))
+    (rows : Moves x.retired x.marked x.sizes x.head.place.0 x.head.outstanding (named_by x.head.place.0 x.head.outstanding cack b) R'' M'' out) where
   h : Started x
-  h = all.started
+  h = asked.0
 
   -- ---- what is named: among the outstanding, as the rule says
   abbrev f : ℕ → Bool
@@ -133,7 +138,7 @@ module _ (x : Lent) (cack : ℕ) (b : Block) (R'' M'' : List ℕ) (out : Moved) 
 
   no_unsent_bit : any_set (unsent (meaning x)) b ≡ false
   unfolding names_unsent unsent_bit
-  no_unsent_bit = (or_false_each (unsent_cack (meaning x) cack) (any_set (unsent (meaning x)) b) all.none_unsent).1
+  no_unsent_bit = (or_false_each (unsent_cack (meaning x) cack) (any_set (unsent (meaning x)) b) asked.1).1
 
   no_bit_past : (i : ℕ) → x.head.outstanding ≤ i → i < half → has_bit b (after x.head.place.0 (1 + i)) ≡ false
   unfolding has_bit any_set
@@ -224,25 +229,25 @@ module _ (x : Lent) (cack : ℕ) (b : Block) (R'' M'' : List ℕ) (out : Moved) 
         ∙ total_same x.head.outstanding _ _
         (λ i l. ap₂ (λ (t : Bool) (n : ℕ). cond (t && not (at x.retired (offset x + i))) n 0) (named_in i) (same i l))
 
-  newly_is : out.newly ≡ newly g (meaning x).entries
+  newly_is : out.sum.newly ≡ newly g (meaning x).entries
   unfolding meaning
-  newly_is = all.rows.counted ∙ weigh_in (λ p. 1) (λ i. 1) (λ i l. refl) ∙ sym (newly_table (λ e. 1) g x.head.outstanding (entry x))
+  newly_is = rows.counted ∙ weigh_in (λ p. 1) (λ i. 1) (λ i l. refl) ∙ sym (newly_table (λ e. 1) g x.head.outstanding (entry x))
 
-  alarms_is : out.alarms ≡ false_alarms g (meaning x).entries
+  alarms_is : out.sum.alarms ≡ false_alarms g (meaning x).entries
   unfolding meaning entry
   alarms_is =
-      all.rows.alarmed ∙ weigh_in (mark_by x.marked) (λ i. cond (entry x i).marked 1 0) (λ i l. refl)
+      rows.alarmed ∙ weigh_in (mark_by x.marked) (λ i. cond (entry x i).marked 1 0) (λ i l. refl)
       ∙ sym (newly_table (λ e. cond e.marked 1 0) g x.head.outstanding (entry x))
 
-  bytes_is : out.bytes ≡ weigh x.head.outstanding (λ i. g i && not (entry x i).retired) (λ i. (entry x i).size)
+  bytes_is : out.sum.bytes ≡ weigh x.head.outstanding (λ i. g i && not (entry x i).retired) (λ i. (entry x i).size)
   unfolding entry
   bytes_is =
       let a = x.head.place.0 in
-      all.rows.weighed
+      rows.weighed
       ∙ weigh_in (size_by x.sizes (row_first a)) (λ i. get_or x.sizes (size_at x i) 0)
       (λ i l. ap (λ (n : ℕ). get_or x.sizes n 0) (row_size a i))
 
-  bytes_split : total x.head.outstanding (λ i. size_held (mid i)) + out.bytes ≡ x.head.held
+  bytes_split : total x.head.outstanding (λ i. size_held (mid i)) + out.sum.bytes ≡ x.head.held
   bytes_split =
       ap (λ (n : ℕ). total x.head.outstanding (λ i. size_held (mid i)) + n) bytes_is
       ∙ total_both x.head.outstanding (λ i. size_held (mid i)) _ (λ i. size_held (entry x i))
@@ -250,7 +255,7 @@ module _ (x : Lent) (cack : ℕ) (b : Block) (R'' M'' : List ℕ) (out : Moved) 
       ∙ held_split (entry x i) (g i) (entry x i).retired refl)
       ∙ sym h.held_is
 
-  pub bytes_le : out.bytes ≤ x.head.held
+  pub bytes_le : out.sum.bytes ≤ x.head.held
   bytes_le = omega (arith, bytes_split)
 
   -- ---- the place moves over the run of retired, m at the front
@@ -258,7 +263,7 @@ module _ (x : Lent) (cack : ℕ) (b : Block) (R'' M'' : List ℕ) (out : Moved) 
   m = out.by
 
   R_run : (i : ℕ) → i < m → R (offset x + i) ≡ true
-  R_run i l = not-false (R (offset x + i)) (all.rows.moved.none i l)
+  R_run i l = not-false (R (offset x + i)) (rows.moved.none i l)
 
   R_up : (p : ℕ) → p < offset x + m → R p ≡ true
   R_up p l = go (dec_lt p (offset x))
@@ -271,17 +276,17 @@ module _ (x : Lent) (cack : ℕ) (b : Block) (R'' M'' : List ℕ) (out : Moved) 
   R_stop = go (dec_lt m x.head.outstanding)
     where
       go : Dec (m < x.head.outstanding) → R (offset x + m) ≡ false
-      go (yes l) = not-true (R (offset x + m)) (all.rows.moved.here l)
+      go (yes l) = not-true (R (offset x + m)) (rows.moved.here l)
       go (no l) = R_unsent (offset x + m) (omega arith)
 
   lead_is : lead (map is_retired (table x.head.outstanding mid)) ≡ m
-  lead_is = ap lead (map_table is_retired x.head.outstanding mid) ∙ lead_table x.head.outstanding (λ i. R (offset x + i)) m all.rows.moved
+  lead_is = ap lead (map_table is_retired x.head.outstanding mid) ∙ lead_table x.head.outstanding (λ i. R (offset x + i)) m rows.moved
 
   -- ---- the record after
   module _ (now : Psn) (now_is : now.0 ≡ after x.head.place.0 m) where
-    abbrev pub acknowledged : Lent
+    abbrev acknowledged : Lent
     acknowledged = record {
-      head = record { room = x.head.room; place = now; outstanding = x.head.outstanding - m; held = x.head.held - out.bytes };
+      head = record { room = x.head.room; place = now; outstanding = x.head.outstanding - m; held = x.head.held - out.sum.bytes };
       sizes = x.sizes;
       retired = R'';
       marked = M'';
@@ -304,10 +309,10 @@ module _ (x : Lent) (cack : ℕ) (b : Block) (R'' M'' : List ℕ) (out : Moved) 
     unfolding entry
     entry_is i =
         same_entry (ap (λ (n : ℕ). get_or x.sizes n 0) (ap (λ (n : ℕ). (n + 1 + i) % largest_room) now_is ∙ size_at_on x.head.place.0 m i))
-        (all.rows.retired_are.bits_are (offset acknowledged + i) ∙ ap R (bit_is i))
-        (all.rows.marked_are.bits_are (offset acknowledged + i) ∙ ap M (bit_is i))
+        (rows.retired_are.bits_are (offset acknowledged + i) ∙ ap R (bit_is i))
+        (rows.marked_are.bits_are (offset acknowledged + i) ∙ ap M (bit_is i))
 
-    pub acknowledged_means : meaning acknowledged ≡ after_sack (meaning x) cack b
+    acknowledged_means : meaning acknowledged ≡ after_sack (meaning x) cack b
     unfolding meaning after_sack settle
     acknowledged_means =
         let moves : lead (map is_retired (retire g (meaning x).entries)) ≡ m = ap (λ (l : List Entry). lead (map is_retired l)) retire_is ∙ lead_is in
@@ -319,33 +324,33 @@ module _ (x : Lent) (cack : ℕ) (b : Block) (R'' M'' : List ℕ) (out : Moved) 
               ∙ sym (ap₂ (λ (n : ℕ) (l : List Entry). drop n l) moves retire_is)) j;
         }
 
-    held_is : x.head.held - out.bytes ≡ total (x.head.outstanding - m) (λ i. size_held (entry acknowledged i))
+    held_is : x.head.held - out.sum.bytes ≡ total (x.head.outstanding - m) (λ i. size_held (entry acknowledged i))
     held_is =
         let n = x.head.outstanding in
         let w : ℕ → ℕ = λ i. size_held (mid i) in
-        let n_is : m + (n - m) ≡ n = omega (arith, all.rows.moved.within) in
+        let n_is : m + (n - m) ≡ n = omega (arith, rows.moved.within) in
         let front : total m w ≡ 0 = total_none m w (λ i l. retired_holds (mid i) (R_run i l)) in
         let rest : total (n - m) (λ i. w (m + i)) ≡ total (n - m) (λ i. size_held (entry acknowledged i)) =
         total_same (n - m) _ _ (λ i l. ap size_held (sym (entry_is i))) in
         let parts : total n w ≡ total m w + total (n - m) (λ i. w (m + i)) = ap (λ (j : ℕ). total j w) (sym n_is) ∙ total_add m (n - m) w in
         omega (arith, front, rest, parts, bytes_split)
 
-    pub acknowledged_started : Started acknowledged
+    acknowledged_started : Started acknowledged
     acknowledged_started = record {
       room_good = h.room_good;
       place_low = subst (λ (n : ℕ). n < turn) (sym now_is) (after_lt x.head.place.0 m);
       room_left = omega (arith, h.room_left);
       sizes_long = h.sizes_long;
-      enough = omega (arith, h.enough, all.rows.retired_are.long);
-      most = omega (arith, h.most, all.rows.retired_are.long);
-      marked_long = all.rows.marked_are.long ∙ h.marked_long ∙ sym all.rows.retired_are.long;
-      before = λ p l. all.rows.retired_are.bits_are p ∙ R_up (q + p) (omega (arith, offset_is));
-      first_open = all.rows.retired_are.bits_are (offset acknowledged) ∙ ap R open_is ∙ R_stop;
-      unsent = λ p l. all.rows.retired_are.bits_are p ∙ R_unsent (q + p) (omega (arith, offset_is, all.rows.moved.within));
+      enough = omega (arith, h.enough, rows.retired_are.long);
+      most = omega (arith, h.most, rows.retired_are.long);
+      marked_long = rows.marked_are.long ∙ h.marked_long ∙ sym rows.retired_are.long;
+      before = λ p l. rows.retired_are.bits_are p ∙ R_up (q + p) (omega (arith, offset_is));
+      first_open = rows.retired_are.bits_are (offset acknowledged) ∙ ap R open_is ∙ R_stop;
+      unsent = λ p l. rows.retired_are.bits_are p ∙ R_unsent (q + p) (omega (arith, offset_is, rows.moved.within));
       not_both = λ p.
-          ap₂ (λ (s u : Bool). s && u) (all.rows.retired_are.bits_are p) (all.rows.marked_are.bits_are p) ∙ not_both_in (q + p);
-      mark_unsent = λ p l. all.rows.marked_are.bits_are p ∙ M_unsent (q + p) (omega (arith, offset_is, all.rows.moved.within));
-      sizes_good = λ i l. ap (λ (e : Entry). size_ok e.size) (entry_is i) ∙ sizes_good_of x h (m + i) (omega (arith, all.rows.moved.within));
+          ap₂ (λ (s u : Bool). s && u) (rows.retired_are.bits_are p) (rows.marked_are.bits_are p) ∙ not_both_in (q + p);
+      mark_unsent = λ p l. rows.marked_are.bits_are p ∙ M_unsent (q + p) (omega (arith, offset_is, rows.moved.within));
+      sizes_good = λ i l. ap (λ (e : Entry). size_ok e.size) (entry_is i) ∙ sizes_good_of x h (m + i) (omega (arith, rows.moved.within));
       held_is = held_is;
     }
       where
@@ -356,9 +361,30 @@ module _ (x : Lent) (cack : ℕ) (b : Block) (R'' M'' : List ℕ) (out : Moved) 
     unfolding meaning
     place_is = ap (λ (y : rule.Sender). y.place) acknowledged_means
 
-    pub acknowledged_reports : record { newly = out.newly; place = now; held = x.head.held - out.bytes; alarms = out.alarms } ≡ report (meaning x) cack b
+    acknowledged_reports : record { newly = out.sum.newly; place = now; held = x.head.held - out.sum.bytes; alarms = out.sum.alarms } ≡ report (meaning x) cack b
     unfolding report
     acknowledged_reports =
-        let held_after : x.head.held - out.bytes ≡ held (after_sack (meaning x) cack b) =
+        let held_after : x.head.held - out.sum.bytes ≡ held (after_sack (meaning x) cack b) =
         held_is ∙ sym (held_total acknowledged) ∙ ap held acknowledged_means in
         λ i. record { newly = newly_is i; place = psn (place_is i); held = held_after i; alarms = alarms_is i }
+
+    pub acknowledges : Acknowledges x cack b
+        (answer.Retired (record { newly = out.sum.newly; place = now; held = x.head.held - out.sum.bytes; alarms = out.sum.alarms })) acknowledged.head R'' M''
+    unfolding sacks.acknowledged
+    acknowledges = record {
+      meets = does _ _ refl (ap (λ (k : Report). Ok (answer.Retired k)) acknowledged_reports) acknowledged_means (inr acknowledged_started);
+      retired_long = rows.retired_are.long;
+      marked_long = rows.marked_are.long;
+    }
+
+-- a SACK whose rule acknowledges
+pub sacks_by : (x : Lent) (cack : Psn) (b : Block) (r : Answer) (h : Head) (rs ms : List ℕ)
+    → step (meaning x) (sending.Sack cack b) ≡ sacks.acknowledged (meaning x) cack.0 b → Acknowledges x cack.0 b r h rs ms
+    → Steps x (sending.Sack cack b) (Ok r) h x.sizes rs ms
+unfolding sizes_after
+sacks_by x cack b r h rs ms rule done = record {
+  meets = rw rule done.meets;
+  sizes_are = refl;
+  retired_long = done.retired_long;
+  marked_long = done.marked_long;
+}

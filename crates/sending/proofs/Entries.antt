@@ -7,13 +7,14 @@ use Prim.Native.Nat.{ℕ, zero, suc, ◌+◌, ◌*◌, ◌≤◌, ◌<◌}
 use native.Mathlib.Omega.{arith}
 use lib.Dec.{leb}
 use lib.ListN.{length}
-use borrow.Author.Tests.{leb-true, eq-eqb, ne_eqb}
+use borrow.Author.Tests.{leb-true, ne_eqb}
 use Rattle.lists.specs.Index.{total}
 use Rattle.lists.proofs.Index.{length_table, map_table}
 use Rattle.row.specs.Row.{at}
 use Rattle.rules.specs.Numbers.{after, size_ok, largest_room, least_size, largest_size}
 use Rattle.lists.specs.Lists.{sum}
 use Rattle.rules.specs.Sender.{Entry, outstanding, unused, next, size_held, held}
+use Rattle.rules.specs.Sender as rule
 use Rattle.lists.proofs.Joined.{and_true_each}
 use Rattle.rules.proofs.Allowed.{room_numbers}
 use Rattle.retire.specs.Front.{Stands}
@@ -32,6 +33,11 @@ length_entries x = length_table x.head.outstanding (entry x)
 pub stands : (x : Lent) → Stands (meaning x) x.head.place.0 x.head.outstanding
 unfolding meaning
 stands x = record { place_is = refl; outstanding_is = length_entries x }
+
+-- and what it says of every one that stands so holds of this one
+pub at_meaning : (x : Lent) → Sound x → (b : Bool) (asks : rule.Sender → Bool)
+    → ((y : rule.Sender) → Stands y x.head.place.0 x.head.outstanding → b ≡ asks y) → b ≡ asks (meaning x)
+at_meaning x s b asks h = h (meaning x) (stands x)
 
 pub next_is : (x : Lent) → next (meaning x) ≡ after x.head.place.0 (1 + x.head.outstanding)
 unfolding next meaning
@@ -73,20 +79,10 @@ module _ (x : Lent) (h : Started x) where
   pub unmarked : (p : ℕ) → p < offset x → at x.marked p ≡ false
   unmarked p l = ap (λ (b : Bool). b && at x.marked p) (sym (h.before p l)) ∙ h.not_both p
 
--- one in use was started
+-- one in use was started, and one that was started is in use
 pub in_use : (x : Lent) → Sound x → (x.head.room ≡ 0 → ⊥) → Started x
 in_use x s n = ⊎_elim (λ e. absurd (n (ap (λ (y : Lent). y.head.room) e))) (λ h. h) s
 
--- ---- whether it is in use, and whether there is room, as the rules ask
-module _ (x : Lent) where
-  pub is_unused : x.head.room ≡ 0 → unused (meaning x) ≡ true
-  unfolding meaning
-  is_unused = eq-eqb x.head.room 0
-
-  pub is_used : (x.head.room ≡ 0 → ⊥) → unused (meaning x) ≡ false
-  unfolding meaning
-  is_used = ne_eqb x.head.room 0
-
-  pub full_is : leb (meaning x).room (outstanding (meaning x)) ≡ leb x.head.room x.head.outstanding
-  unfolding meaning
-  full_is = ap (leb x.head.room) (length_entries x)
+pub used : (x : Lent) → Started x → unused (meaning x) ≡ false
+unfolding meaning
+used x h = ne_eqb x.head.room 0 (λ e. omega (arith, (room_numbers x.head.room h.room_good).least))

@@ -8,7 +8,8 @@ use native.Mathlib.Omega.{arith}
 use native.Mathlib.Decide.{ℕ_discrete, dec_lt}
 use lib.Dec.{eqb, ltb}
 use lib.ListN.{length, get_or, get_or-eq_default}
-use borrow.Author.Tests.{lt-ltb, le-ltb, ltb-true, le-leb, lt-leb, eq-eqb, ne_eqb, not-true}
+use borrow.Author.Tests.{lt-ltb, le-ltb, ltb-true, eq-eqb, ne_eqb, not-true}
+use Rattle.std.specs.Prelude.{Ok}
 use Rattle.psn.specs.Psn.{after, distance}
 use Rattle.lists.specs.Index.{table}
 use Rattle.lists.specs.Lists.{update}
@@ -17,17 +18,17 @@ use Rattle.lists.proofs.Joined.{and_true_each}
 use Rattle.lists.proofs.Tables.{update_table}
 use Rattle.row.specs.Row.{at, bits, Row, Becomes, without_bit}
 use Rattle.marks.specs.Marks as marks
-use Rattle.promise.specs.Outcome.{Done}
 use Rattle.promise.specs.Promise.{Meets}
 use Rattle.promise.proofs.Meeting.{does}
-use Rattle.rules.specs.Paper.{paper}
+use Rattle.rules.specs.Numbered.{number}
+use Rattle.rules.specs.Paper.{paper, Reply}
 use Rattle.rules.specs.Sender.{size_held, index, with_entries}
-use Rattle.rules.specs.Sender as rule
-use Rattle.rules.specs.Marks.{with_mark, markable, mark, nacked}
+use Rattle.rules.specs.Marks.{with_mark, markable, mark}
+use Rattle.rules.specs.Sending.{step}
 use Rattle.rules.specs.declared.Answer.{Answer}
-use Rattle.rules.specs.declared.Answer.TheVariants as answer
+use Rattle.rules.specs.declared.Sending.{Sending}
 use Rattle.retire.proofs.Judged.{index_is}
-use Rattle.sending.specs.Lent.{Lent, lent, meaning, entry, offset, Started, Sound}
+use Rattle.sending.specs.Lent.{Lent, lent, meaning, entry, offset, Started, Sound, sizes_after, Steps}
 use Rattle.sending.proofs.Entries.{same_entry, stands}
 
 -- ---- another row of marks
@@ -131,7 +132,7 @@ module _ (x : Lent) (h : Started x) (ws : List ℕ) (long : length ws ≡ length
 
 -- ---- NACK and timer, for packet number p: n became marked, and the row is left so, however it is told
 abbrev pub Marks : Lent → ℕ → ℕ → List ℕ → Type 0
-Marks x p n ws = (tell : ℕ → Answer) → Meets paper Sound meaning x (mark tell (meaning x) p) (tell n) (remarked x ws)
+Marks x p n ws = (tell : ℕ → Answer) → Meets paper number Sound meaning x (mark tell (meaning x) p) (Ok (tell n)) (remarked x ws)
 
 module _ (x : Lent) (h : Started x) (p : ℕ) where
   abbrev i : ℕ
@@ -161,8 +162,8 @@ module _ (x : Lent) (h : Started x) (p : ℕ) where
     long : length ws ≡ length x.retired
     long = rows.marked_are.long ∙ h.marked_long
 
-    newly_in : (tell : ℕ → Answer) (b : Bool) → markable_row ≡ b → tell n ≡ tell (cond b 1 0)
-    newly_in tell b e = ap tell (rows.newly_is ∙ ap (λ (t : Bool). cond t 1 0) e)
+    newly_in : (tell : ℕ → Answer) (b : Bool) → markable_row ≡ b → ◌≡◌ {A = Reply} (Ok (tell n)) (Ok (tell (cond b 1 0)))
+    newly_in tell b e = ap (λ (m : ℕ). Ok (tell m)) (rows.newly_is ∙ ap (λ (t : Bool). cond t 1 0) e)
 
     -- the rule marks, and the bit is set
     set_meets : markable_row ≡ true → Marks x p n ws
@@ -190,19 +191,20 @@ module _ (x : Lent) (h : Started x) (p : ℕ) where
         let no_mark : may_mark ≡ false = may_is ∙ e in
         λ tell. does _ _ (rw no_mark) (newly_in tell false e) (same_means x h ws long same) (inr (same_started x h ws long same))
 
-    pub mark_meets : Marks x p n ws
+    mark_meets : Marks x p n ws
     mark_meets = by markable_row refl
       where
         by : (b : Bool) → markable_row ≡ b → Marks x p n ws
         by true e = set_meets e
         by false e = kept_meets e
 
--- ---- a NACK's reason: above 4 nothing is marked
-pub nacked_none : (y : rule.Sender) (p reason : ℕ) → 4 < reason → nacked y p reason ≡ Done y (answer.Marked 0)
-unfolding nacked
-nacked_none y p reason l = rw (lt-leb reason 4 l)
-
-pub nacked_mark : (x : Lent) (p reason : ℕ) → reason ≤ 4 → (a : Answer) (y : Lent) → Meets paper Sound meaning x (mark answer.Marked (meaning x) p) a y
-    → Meets paper Sound meaning x (nacked (meaning x) p reason) a y
-unfolding nacked
-nacked_mark x p reason l a y h = rw (le-leb reason 4 l) h
+-- an event whose rule marks p
+pub marks_by : (x : Lent) → Started x → (e : Sending) (tell : ℕ → Answer) (p n : ℕ) (ws : List ℕ) → step (meaning x) e ≡ mark tell (meaning x) p
+    → sizes_after x.sizes e (Ok (tell n)) ≡ x.sizes → marks.Marks x.retired x.marked x.head.place.0 x.head.outstanding p ws n
+    → Steps x e (Ok (tell n)) x.head x.sizes x.retired ws
+marks_by x h e tell p n ws rule sizes rows = record {
+  meets = rw rule (mark_meets x h p ws n rows tell);
+  sizes_are = sym sizes;
+  retired_long = refl;
+  marked_long = rows.marked_are.long;
+}

@@ -2,19 +2,27 @@
 use mathlib.Core.Path.{◌≡◌, refl, sym, ap, ap₂, ◌∙◌}
 use mathlib.Core.Bool.{true}
 use mathlib.Core.List.{List, [], ◌∷◌, ◌++◌}
+use mathlib.Core.Logic.{inr}
 use Prim.Native.Nat.{ℕ, ◌+◌, ◌%◌, ◌<◌}
 use native.Mathlib.Omega.{arith}
 use native.Mathlib.Numerals.{add-one}
 use native.Mathlib.Decide.{dec_lt}
 use lib.ListN.{set, length-set}
 use lib.Seq.{get_or-set_same, get_or-set_other}
+use Rattle.std.specs.Prelude.{Ok}
+use Rattle.psn.specs.declared.Psn.{Psn}
 use Rattle.psn.specs.Psn.{after}
 use Rattle.lists.specs.Index.{total, table}
 use Rattle.lists.proofs.Index.{total_same, table_same, table_snoc}
-use Rattle.rules.specs.Numbers.{size_ok, largest_room}
+use Rattle.promise.proofs.Meeting.{does}
+use Rattle.rules.specs.Numbers.{psn, size_ok, largest_room}
 use Rattle.rules.specs.Sender.{Entry, size_held, new, with_entries}
-use Rattle.sending.specs.Lent.{Lent, meaning, entry, size_at, Started}
-use Rattle.sending.proofs.Entries.{same_entry, room_most}
+use Rattle.rules.specs.Sender as rules
+use Rattle.rules.specs.Sending.{step}
+use Rattle.rules.specs.declared.Answer.TheVariants as answer
+use Rattle.rules.specs.declared.Sending.TheVariants as sending
+use Rattle.sending.specs.Lent.{Lent, meaning, entry, size_at, Started, sent_size, sizes_after, Steps}
+use Rattle.sending.proofs.Entries.{same_entry, room_most, next_is}
 
 -- two entries that are outstanding at once have places of their own
 apart : (a i j : ℕ) → i < j → j < i + largest_room → (a + 1 + i) % largest_room ≡ (a + 1 + j) % largest_room → ⊥
@@ -30,7 +38,7 @@ sent x size = record {
 }
 
 -- its size stands by its packet number
-pub sent_at : (a n : ℕ) → (a + 1 + n) % largest_room ≡ after a (1 + n) % largest_room
+sent_at : (a n : ℕ) → (a + 1 + n) % largest_room ≡ after a (1 + n) % largest_room
 unfolding after
 sent_at a n = omega arith
 
@@ -61,11 +69,11 @@ module _ (x : Lent) (h : Started x) (size : ℕ) (ok : size_ok size ≡ true) (f
       ap (λ (n : ℕ). table n (entry (sent x size))) (add-one x.head.outstanding) ∙ sym (table_snoc x.head.outstanding (entry (sent x size)))
       ∙ ap₂ (λ (l : List Entry) (e : Entry). l ++ (e ∷ [])) (table_same x.head.outstanding _ _ entry_old) entry_new
 
-  pub sent_means : meaning (sent x size) ≡ with_entries (meaning x) ((meaning x).entries ++ (new size ∷ []))
+  sent_means : meaning (sent x size) ≡ with_entries (meaning x) ((meaning x).entries ++ (new size ∷ []))
   unfolding meaning with_entries
   sent_means = λ i. record { room = x.head.room; place = x.head.place.0; entries = entries_are i }
 
-  pub sent_started : Started (sent x size)
+  sent_started : Started (sent x size)
   sent_started = record {
     room_good = h.room_good;
     place_low = h.place_low;
@@ -90,3 +98,14 @@ module _ (x : Lent) (h : Started x) (size : ℕ) (ok : size_ok size ≡ true) (f
       good i (no m) l =
           let is : i ≡ x.head.outstanding = omega arith in
           ap (λ (j : ℕ). size_ok (entry (sent x size) j).size) is ∙ ap (λ (e : Entry). size_ok e.size) entry_new ∙ ok
+
+  -- a send whose rule sends, and is given the number p
+  pub sends : (p : Psn) → p.0 ≡ after x.head.place.0 (1 + x.head.outstanding) → step (meaning x) (sending.Send size) ≡ rules.sent (meaning x) size
+      → Steps x (sending.Send size) (Ok (answer.Sent p)) (sent x size).head (sent x size).sizes x.retired x.marked
+  unfolding rules.sent sizes_after sent_size
+  sends p is rule = record {
+    meets = does _ _ rule (ap (λ (q : ℕ). Ok (answer.Sent (psn q))) (is ∙ sym (next_is x))) sent_means (inr sent_started);
+    sizes_are = ap (λ (n : ℕ). set x.sizes n size) (sent_at x.head.place.0 x.head.outstanding ∙ ap (λ (q : ℕ). q % largest_room) (sym is));
+    retired_long = refl;
+    marked_long = refl;
+  }

@@ -16,16 +16,15 @@ use Rattle.row.specs.Row.{at, Row, Becomes}
 use Rattle.row.proofs.Rows.{at_zeros}
 use Rattle.row.proofs.Settled.{Words, becomes_settled}
 use Rattle.rules.specs.Numbers.{psn}
+use Rattle.rules.specs.Paper.{Reply}
 use Rattle.rules.specs.Sender.{Entry, outstanding, unused, held}
 use Rattle.rules.specs.Sender as rule
 use Rattle.rules.specs.Retire.{is_retired}
 use Rattle.rules.specs.declared.Sending.{Sending}
-use Rattle.rules.proofs.Allowed.{room_numbers}
 use Rattle.rules.proofs.Settled.{settled}
 use Rattle.sending.specs.declared.Head.{Head}
-use Rattle.sending.specs.declared.Stepped.{Stepped}
-use Rattle.sending.specs.Lent.{Lent, lent, empty, offset, entry, meaning, Started, Sound, sizes_after, Steps}
-use Rattle.sending.proofs.Entries.{length_entries, held_total, is_used, unmarked}
+use Rattle.sending.specs.Lent.{Lent, lent, empty, offset, entry, meaning, Sound, sizes_after, Steps}
+use Rattle.sending.proofs.Entries.{length_entries, held_total, used, unmarked}
 
 -- ---- the head
 abbrev head_of : rule.Sender → Head
@@ -75,14 +74,11 @@ marked_of = bits_of (λ e. e.marked) false
 none_set : (n : ℕ) (f : Entry → Bool) → Row (empty n).retired (bits_of f false (meaning (empty n)))
 none_set n f = row_is (empty n) f false (empty n).retired (λ p l. at_zeros n p) (λ i l. absurd (omega arith)) (λ p l. at_zeros n p)
 
-used : (x : Lent) → Started x → not (unused (meaning x)) ≡ true
-used x h = ap not (is_used x (λ e. omega (arith, (room_numbers x.head.room h.room_good).least)))
-
 retired_are : (x : Lent) → Sound x → Row x.retired (retired_of (meaning x))
 unfolding meaning entry
 retired_are x (inl e) = subst (λ (y : Lent). Row y.retired (retired_of (meaning y))) (sym e) (none_set (length x.retired) is_retired)
 retired_are x (inr h) =
-    subst (λ (b : Bool). Row x.retired (bits_of is_retired b (meaning x))) (sym (used x h))
+    subst (λ (b : Bool). Row x.retired (bits_of is_retired b (meaning x))) (ap not (sym (used x h)))
     (row_is x is_retired true x.retired h.before (λ i l. refl) h.unsent)
 
 marked_are : (x : Lent) → Sound x → Row x.marked (marked_of (meaning x))
@@ -90,14 +86,13 @@ unfolding entry
 marked_are x (inl e) = subst (λ (y : Lent). Row y.marked (marked_of (meaning y))) (sym e) (none_set (length x.retired) (λ e. e.marked))
 marked_are x (inr h) = row_is x (λ e. e.marked) false x.marked (unmarked x h) (λ i l. refl) h.mark_unsent
 
--- ---- the rows after it are ss, rs and ms, or ss', rs' and ms'
-pub step_settled : (x : Lent) (e : Sending) (r s : Stepped) (ss rs ms ss' rs' ms' : List ℕ) → Words rs → Words rs' → Words ms → Words ms'
-    → Steps x e r ss rs ms → Steps x e s ss' rs' ms'
-    → (r.answer ≡ s.answer) × (r.«record» ≡ s.«record») × (ss ≡ ss') × (rs ≡ rs') × (ms ≡ ms')
-step_settled x e r s ss rs ms ss' rs' ms' small small' few few' p q =
-    let y = lent r.«record» ss rs ms in
-    let z = lent s.«record» ss' rs' ms' in
-    let same = settled r.answer s.answer y z p.meets q.meets in
+-- ---- the reply, the head and the rows after it are r, h, ss, rs and ms, or r', h', ss', rs' and ms'
+pub step_settled : (x : Lent) (e : Sending) (r r' : Reply) (h h' : Head) (ss rs ms ss' rs' ms' : List ℕ) → Words rs → Words rs' → Words ms → Words ms'
+    → Steps x e r h ss rs ms → Steps x e r' h' ss' rs' ms' → (r ≡ r') × (h ≡ h') × (ss ≡ ss') × (rs ≡ rs') × (ms ≡ ms')
+step_settled x e r r' h h' ss rs ms ss' rs' ms' small small' few few' p q =
+    let y = lent h ss rs ms in
+    let z = lent h' ss' rs' ms' in
+    let same = settled r r' y z p.meets q.meets in
     let f = retired_of (meaning z) in
     let g = marked_of (meaning z) in
     let retires : Becomes x.retired rs f =

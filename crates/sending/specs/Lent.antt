@@ -1,11 +1,12 @@
 -- A sender's head over the rows lent to it: what they mean, which there are, and what an event owes.
-use Rattle.std.specs.Prelude.{◌≡◌, true, false, ◌&&◌, List, ◌⊎◌, ℕ, ◌+◌, ◌*◌, ◌%◌, ◌≤◌, ◌<◌, length, get_or, set, replicate}
+use Rattle.std.specs.Prelude.{◌≡◌, true, false, ◌&&◌, List, ◌⊎◌, ℕ, ◌+◌, ◌*◌, ◌%◌, ◌≤◌, ◌<◌, length, get_or, set, replicate, Ok, Err}
 use Rattle.lists.specs.Index.{table, total}
 use Rattle.row.specs.Row.{at}
 use Rattle.retire.specs.Rows.{longest_weighed}
 use Rattle.rules.specs.Numbers.{turn, psn, room_ok, size_ok, largest_room}
 use Rattle.promise.specs.Promise.{Meets}
-use Rattle.rules.specs.Paper.{paper}
+use Rattle.rules.specs.Numbered.{number}
+use Rattle.rules.specs.Paper.{paper, Reply}
 use Rattle.rules.specs.Sender.{Entry, size_held}
 use Rattle.rules.specs.Sender as rule
 use Rattle.rules.specs.Retire.{acknowledged}
@@ -16,7 +17,6 @@ use Rattle.rules.specs.declared.Block.{Block}
 use Rattle.rules.specs.declared.Sending.{Sending}
 use Rattle.rules.specs.declared.Sending.TheVariants as sending
 use Rattle.sending.specs.declared.Head.{Head}
-use Rattle.sending.specs.declared.Stepped.{Stepped}
 
 pub record Lent : Type 0 where
   pub head : Head
@@ -77,35 +77,35 @@ abbrev pub Sound : Lent → Type 0
 Sound x = Empty x ⊎ Started x
 
 -- the sizes after an event: that of a packet sent stands by its PSN, and no other size is written
-unfoldable pub sent_size : List ℕ → ℕ → Answer → List ℕ
-sent_size ss size (answer.Refused n) = ss
-sent_size ss size answer.Started = ss
-sent_size ss size answer.Closed = ss
-sent_size ss size (answer.Sent p) = set ss (p.0 % largest_room) size
-sent_size ss size (answer.Acked v s) = ss
-sent_size ss size (answer.Nacked v n) = ss
-sent_size ss size (answer.Retired r) = ss
-sent_size ss size (answer.Marked n) = ss
-sent_size ss size (answer.Expired n) = ss
-sent_size ss size (answer.Resent p) = ss
+unfoldable pub sent_size : List ℕ → ℕ → Reply → List ℕ
+sent_size ss size (Err n) = ss
+sent_size ss size (Ok answer.Started) = ss
+sent_size ss size (Ok answer.Closed) = ss
+sent_size ss size (Ok (answer.Sent p)) = set ss (p.0 % largest_room) size
+sent_size ss size (Ok (answer.Acked v s)) = ss
+sent_size ss size (Ok (answer.Nacked v n)) = ss
+sent_size ss size (Ok (answer.Retired r)) = ss
+sent_size ss size (Ok (answer.Marked n)) = ss
+sent_size ss size (Ok (answer.Expired n)) = ss
+sent_size ss size (Ok (answer.Resent p)) = ss
 
-unfoldable pub sizes_after : List ℕ → Sending → Answer → List ℕ
-sizes_after ss (sending.Send size) a = sent_size ss size a
-sizes_after ss (sending.Sack cack b) a = ss
-sizes_after ss (sending.Nack p reason) a = ss
-sizes_after ss (sending.Timer p) a = ss
-sizes_after ss sending.Resend a = ss
+unfoldable pub sizes_after : List ℕ → Sending → Reply → List ℕ
+sizes_after ss (sending.Send size) r = sent_size ss size r
+sizes_after ss (sending.Sack cack b) r = ss
+sizes_after ss (sending.Nack p reason) r = ss
+sizes_after ss (sending.Timer p) r = ss
+sizes_after ss sending.Resend r = ss
 
--- an event e on x is answered r, and leaves these rows
-pub record Steps (x : Lent) (e : Sending) (r : Stepped) (ss rs ms : List ℕ) : Type 0 where
-  pub meets : Meets paper Sound meaning x (step (meaning x) e) r.answer (lent r.«record» ss rs ms)
-  pub sizes_are : ss ≡ sizes_after x.sizes e r.answer
+-- an event e on x is answered r, and leaves the head h over these rows
+pub record Steps (x : Lent) (e : Sending) (r : Reply) (h : Head) (ss rs ms : List ℕ) : Type 0 where
+  pub meets : Meets paper number Sound meaning x (step (meaning x) e) r (lent h ss rs ms)
+  pub sizes_are : ss ≡ sizes_after x.sizes e r
   -- the words are as many as before
   pub retired_long : length rs ≡ length x.retired
   pub marked_long : length ms ≡ length x.marked
 
--- a SACK that names nothing unsent is done as the rule says, and leaves these words
-pub record Acknowledges (x : Lent) (cack : ℕ) (b : Block) (r : Stepped) (rs ms : List ℕ) : Type 0 where
-  pub meets : Meets paper Sound meaning x (acknowledged (meaning x) cack b) r.answer (lent r.«record» x.sizes rs ms)
+-- a SACK that names nothing unsent is done as the rule says, is answered r, and leaves the head h over these words
+pub record Acknowledges (x : Lent) (cack : ℕ) (b : Block) (r : Answer) (h : Head) (rs ms : List ℕ) : Type 0 where
+  pub meets : Meets paper number Sound meaning x (acknowledged (meaning x) cack b) (Ok r) (lent h x.sizes rs ms)
   pub retired_long : length rs ≡ length x.retired
   pub marked_long : length ms ≡ length x.marked

@@ -1,4 +1,4 @@
 -- Laws of a table's slots, and that each promise settles its outcome.
 pub mod Slots
-pub mod Filling
+pub mod Taken
 pub mod Settled

@@ -1,6 +1,6 @@
 -- A slot that is outside is refused and leaves the table, and what is stored to one that is not is what the table's rule stores; a table
 -- that is emptied is what the rules empty it to; and every table that calls leave meets the premise. Assumes nothing.
-use mathlib.Core.Path.{◌≡◌, refl, sym, ap, ◌∙◌}
+use mathlib.Core.Path.{◌≡◌, refl, sym, ap, ◌∙◌, subst}
 use mathlib.Core.Bool.{true, false, or-true}
 use mathlib.Core.List.{List, map, ◌∷◌}
 use mathlib.Core.Logic.{inl}
@@ -9,6 +9,7 @@ use lib.Dec.{leb}
 use lib.ListN.{length, get_or, set, replicate, length-map, get_or-map}
 use lib.Seq.{get_or-set_same, get_or-set_other, set-get_or}
 use borrow.Author.Tests.{le-leb, lt-leb}
+use Rattle.std.specs.Prelude.{Err}
 use Rattle.promise.specs.Outcome.{within}
 use Rattle.promise.proofs.Refusing.{Past, test, number, none_left}
 use Rattle.promise.proofs.Meeting.{returns_at, part}
@@ -18,10 +19,10 @@ use Rattle.rules.specs.Connection as rule
 use Rattle.rules.specs.Table.{at, outside, in_slot, on, on_refusals}
 use Rattle.rules.specs.Table as rule-table
 use Rattle.rules.specs.declared.Event.{Event}
-use Rattle.rules.specs.declared.Answer.TheVariants as answer
-use Rattle.rules.proofs.Settled.{on_refusal}
+use Rattle.rules.specs.Paper.{Reply}
+use Rattle.rules.specs.Numbered as numbered
+use Rattle.rules.specs.declared.Refusal.TheVariants.{NoSuchSlot}
 use Rattle.connection.specs.declared.Connection.{Connection}
-use Rattle.connection.specs.declared.Stepped.{Stepped}
 use Rattle.connection.specs.Record.{empty, Sound, Steps}
 use Rattle.connection.specs.Record as connection
 use Rattle.connection.proofs.Sides.{empty_means}
@@ -43,38 +44,44 @@ module _ (t : List Connection) where
 
 -- ---- the promise of an event on the table
 module _ (t : List Connection) (slot : ℕ) (e : Event) (all : AllSound t) where
-  outside_refuses : outside (meaning t) slot ≡ true → On t slot e (answer.Refused 1) t
-  unfolding on on_refusals test number Past
-  outside_refuses o =
+  outside_refuses : outside (meaning t) slot ≡ true → (r : Reply) → r ≡ Err NoSuchSlot → On t slot e r t
+  unfolding on on_refusals test number numbered.number Past
+  outside_refuses o r said =
       let does = within (set (meaning t) slot) (in_slot (at (meaning t) slot) e) in
       record {
-        meets = returns_at (on_refusals (meaning t) slot) does refl 0 tt o (on_refusal refl) refl all;
+        meets = returns_at (on_refusals (meaning t) slot) does refl 0 tt o NoSuchSlot said refl refl all;
         elsewhere = λ i n. refl;
       }
 
-  pub past_sixteen : slots ≤ slot → On t slot e (answer.Refused 1) t
+  pub past_sixteen : slots ≤ slot → (r : Reply) → r ≡ Err NoSuchSlot → On t slot e r t
   unfolding outside
   past_sixteen big = outside_refuses (rw (le-leb slots slot big))
 
-  pub past_end : length t ≤ slot → On t slot e (answer.Refused 1) t
+  pub past_end : length t ≤ slot → (r : Reply) → r ≡ Err NoSuchSlot → On t slot e r t
   unfolding outside
   past_end far = outside_refuses (rw (long t, le-leb (length t) slot far) (or-true (leb slots slot)))
 
   -- in a slot of the table, what its connection does
-  pub stored : slot < slots → slot < length t → (r : Stepped)
-      → Steps (get_or t slot empty) (in_slot (connection.meaning (get_or t slot empty)) e) r → On t slot e r.answer (set t slot r.«record»)
+  pub stored : slot < slots → slot < length t → (r : Reply) (d : Connection)
+      → Steps (get_or t slot empty) (in_slot (connection.meaning (get_or t slot empty)) e) r d → On t slot e r (set t slot d)
   unfolding meaning on on_refusals outside Past
-  stored small short r m =
+  stored small short r d m =
       let c = connection.meaning (get_or t slot empty) in
       let inside : outside (meaning t) slot ≡ false = rw (lt-leb slots slot small, long t, lt-leb (length t) slot short) in
       let here : on (meaning t) slot e ≡ within (set (meaning t) slot) (in_slot c e) =
-      none_left (on_refusals (meaning t) slot) _ (inside, tt) ∙ ap (λ d. within (set (meaning t) slot) (in_slot d e)) (at_means t slot) in
+      none_left (on_refusals (meaning t) slot) _ (inside, tt) ∙ ap (λ b. within (set (meaning t) slot) (in_slot b e)) (at_means t slot) in
       record {
         meets = rw here
-            (part (set t slot) (set (meaning t) slot) t (get_or t slot empty) (in_slot c e) r.answer r.«record»
-            (set-get_or t slot empty) (λ q. map_set connection.meaning t slot q) m (all_set Sound empty t slot r.«record» all m.sound));
-        elsewhere = λ i n. get_or-set_other t slot i r.«record» empty n;
+            (part (set t slot) (set (meaning t) slot) t (get_or t slot empty) (in_slot c e) r d
+            (set-get_or t slot empty) (λ q. map_set connection.meaning t slot q) m (all_set Sound empty t slot d all m.sound));
+        elsewhere = λ i n. get_or-set_other t slot i d empty n;
       }
+
+  -- whatever stands for a missing slot, as none is missing
+  pub stored_there : slot < slots → slot < length t → (d : Connection) (r : Reply) (x : Connection)
+      → Steps (get_or t slot d) (in_slot (connection.meaning (get_or t slot d)) e) r x → On t slot e r (set t slot x)
+  stored_there small short d r x m =
+      stored small short r x (subst (λ (c : Connection). Steps c (in_slot (connection.meaning c) e) r x) (get_or_within empty t slot d short) m)
 
 -- ---- a table that is emptied
 empty_slots : (n : ℕ) → meaning (replicate n empty) ≡ replicate n rule.empty
@@ -92,4 +99,4 @@ empty_sound n slot = inl (get_or_alike empty n slot)
 -- the one premise of an event is met after any calls
 pub reached_sound : {t : List Connection} → Reached t → AllSound t
 reached_sound (emptied n) = empty_sound n
-reached_sound (after_event r slot e a u m) = m.meets.sound
+reached_sound (after_event before slot e r u m) = m.meets.sound

@@ -7,21 +7,19 @@ ghost use Rattle.connection.specs.Record.{empty as empty_of, meaning as meaning_
 ghost use Rattle.table.specs.Slots.{AllSound, On};
 
 use connection::Connection;
-use rules::{Answer, Event, SLOTS};
+use rules::{Answer, Event, Refusal, SLOTS, Stepped};
 
 // An event on the record of a slot, by value: a start only where it is not in use.
-pub fn in_slot(c: Connection, event: Event) -> connection::Stepped
+pub fn in_slot(c: Connection, event: Event) -> Stepped<Connection>
     requires { Sound c }
-    ensures { Steps c (in_slot_of (meaning_of c) event) result }
+    ensures { Steps c (in_slot_of (meaning_of c) event) result.answer result.next }
 {
-    let sender = c.sender;
-    let room = sender.room;
     match event {
         Event::Start(opening) => {
-            if room != 0 {
-                return connection::Stepped {
-                    answer: Answer::Refused(3),
-                    record: c,
+            if c.in_use() {
+                return Stepped {
+                    answer: Err(Refusal::InUse),
+                    next: c,
                 };
             }
             Connection::start(opening)
@@ -30,30 +28,21 @@ pub fn in_slot(c: Connection, event: Event) -> connection::Stepped
     }
 }
 
-// An event on a slot of a lent table.
-pub fn event(table: &mut [Connection], slot: usize, event: Event) -> Answer
+// An event on a slot of a lent table: the slot is copied, answered by value and stored back.
+pub fn event(table: &mut [Connection], slot: usize, event: Event) -> Result<Answer, Refusal>
     requires { AllSound table.old }
     ensures { On table.old slot event result table.new }
 {
-    if slot >= SLOTS {
-        return Answer::Refused(1);
-    }
-    if slot >= table.len() {
-        return Answer::Refused(1);
-    }
-    let s = in_slot(table[slot], event);
-    table[slot] = s.record;
-    s.answer
+    Refusal::NoSuchSlot.unless(slot < SLOTS)?;
+    Refusal::NoSuchSlot.unless(slot < table.len())?;
+    let Stepped { answer, next } = in_slot(table[slot], event);
+    table[slot] = next;
+    answer
 }
 
 // Every slot lent is emptied.
 pub fn empty_all(table: &mut [Connection])
     ensures { table.new ≡ replicate (length table.old) empty_of }
 {
-    let c = Connection::empty();
-    let mut i = 0;
-    while i < table.len() {
-        table[i] = c;
-        i += 1;
-    }
+    table.fill(Connection::empty());
 }

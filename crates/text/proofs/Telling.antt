@@ -1,14 +1,14 @@
 -- The text of a line is that of its parts, one behind the other, and every line fits in its room. Assumes nothing.
 use mathlib.Core.Path.{◌≡◌, refl, ◌∙◌}
 use mathlib.Core.List.{List, [], ◌∷◌, ◌++◌, append_assoc, append-nil}
-use Prim.Native.Nat.{ℕ, zero, suc, ◌+◌, ◌*◌, ◌≤◌, ◌<◌}
-use native.Mathlib.Numerals.{add-one}
+use Prim.Native.Nat.{ℕ, zero, suc, ◌*◌, ◌≤◌}
 use native.Mathlib.Omega.{arith}
-use lib.ListN.{length, take, get_or, replicate, length-append, length-replicate}
-use lib.Seq.{length-take-le, take-suc, take-take, take-append_seam}
-use Rattle.rules.specs.Paper.{paper}
+use lib.ListN.{length, take, replicate, length-append}
+use lib.Seq.{take-take, take-append_seam}
+use Rattle.std.specs.Prelude.{Ok, Err}
+use Rattle.promise.specs.Promise.{told}
+use Rattle.rules.specs.Paper.{paper, Reply, reply_line}
 use Rattle.rules.specs.Replay.{Replied, Last, End, Log, line, stop}
-use Rattle.rules.specs.declared.Answer.{Answer}
 use Rattle.rules.specs.declared.Answer.TheVariants as answer
 use Rattle.paper.specs.Shown.{most}
 use Rattle.lines.specs.Text.{decimal}
@@ -24,9 +24,6 @@ spaced_more (n ∷ l) m = rw (spaced_more l m, append_assoc)
 pub spaced_one : (n : ℕ) → spaced (n ∷ []) ≡ 32 ∷ decimal n
 unfolding spaced
 spaced_one n = append-nil (32 ∷ decimal n)
-
-pub spaced_next : (l : List ℕ) (i : ℕ) → i < length l → spaced (take (i + 1) l) ≡ spaced (take i l) ++ (32 ∷ decimal (get_or l i 0))
-spaced_next l i h = rw (add-one i, take-suc l i 0 h, spaced_more, spaced_one)
 
 -- lines behind lines
 pub lines_more : (l m : List Replied) → lines_text (l ++ m) ≡ lines_text l ++ lines_text m
@@ -56,26 +53,23 @@ unfolding stop last_text
 log_is zero place count h = absurd (h refl)
 log_is (suc n) place count h = simp (spaced_one, append_assoc)
 
--- an answer has at most 8 values
-pub values_few : (a : Answer) → length (paper a).values ≤ most
-unfolding paper
-values_few (answer.Refused n) = omega arith
-values_few answer.Started = omega arith
-values_few answer.Closed = omega arith
-values_few (answer.Sent p) = omega arith
-values_few (answer.Acked v k) = omega arith
-values_few (answer.Nacked v k) = omega arith
-values_few (answer.Retired k) = omega arith
-values_few (answer.Marked n) = omega arith
-values_few (answer.Expired n) = omega arith
-values_few (answer.Resent p) = omega arith
+-- a reply has at most 8 values
+pub values_few : (r : Reply) → length (reply_line r).values ≤ most
+unfolding told paper
+values_few (Err e) = omega arith
+values_few (Ok answer.Started) = omega arith
+values_few (Ok answer.Closed) = omega arith
+values_few (Ok (answer.Sent p)) = omega arith
+values_few (Ok (answer.Acked v k)) = omega arith
+values_few (Ok (answer.Nacked v k)) = omega arith
+values_few (Ok (answer.Retired k)) = omega arith
+values_few (Ok (answer.Marked n)) = omega arith
+values_few (Ok (answer.Expired n)) = omega arith
+values_few (Ok (answer.Resent p)) = omega arith
 
--- of the code's array the first are the answer's values
+-- of the code's array the first are the reply's values
 pub values_are : (l : List ℕ) → length l ≤ most → take (length l) (take most (l ++ replicate most 0)) ≡ l
 values_are l h = take-take (length l) most (l ++ replicate most 0) h ∙ take-append_seam l (replicate most 0)
-
-pub values_fill : (l : List ℕ) → length (take most (l ++ replicate most 0)) ≡ most
-values_fill l = length-take-le most (l ++ replicate most 0) (simp (length-append, length-replicate) (omega arith))
 
 -- every line fits
 spaced_short : (l : List ℕ) → length (spaced l) ≤ 21 * length l
@@ -87,7 +81,7 @@ pub line_short : (l : Replied) → length (line_text (line l)) ≤ line_room
 unfolding line line_text
 line_short l =
     rw (length-append, length-append)
-    (omega (arith, decimal_short l.kind, spaced_short ((paper l.answer).number ∷ (paper l.answer).values), values_few l.answer))
+    (omega (arith, decimal_short l.kind, spaced_short ((reply_line l.answer).number ∷ (reply_line l.answer).values), values_few l.answer))
 
 pub last_short : (e : Last) → length (last_text e) ≤ line_room
 unfolding last_text

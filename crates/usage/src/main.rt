@@ -5,24 +5,22 @@ ghost use Rattle.connection.specs.Record.{Sound};
 
 use connection::Connection;
 use psn::Psn;
-use rules::{Answer, Arrival, Opening, Options, Sending, Start, Use};
+use rules::{Answer, Arrival, Opening, Options, Refusal, Sending, Start, Use};
 
 // The reply reaches the card that sent: how many packets it newly retires.
-fn heard(near: Connection, reply: Answer) -> u32
+fn heard(near: Connection, reply: Answer) -> Result<u32, Refusal>
     requires { Sound near }
 {
-    match reply {
-        Answer::Acked(_, sack) => {
-            let cack = sack.cack;
-            let block = sack.block;
-            let out = near.step(Use::Sends(Sending::Sack { cack, block }));
-            let answer = out.answer;
-            match answer {
-                Answer::Retired(report) => report.newly,
-                _ => 0,
-            }
-        }
-        _ => 0,
+    let Answer::Acked(_, sack) = reply else {
+        return Ok(0);
+    };
+    let out = near.step(Use::Sends(Sending::Sack {
+        cack: sack.cack,
+        block: sack.block,
+    }));
+    match out.answer? {
+        Answer::Retired(report) => Ok(report.newly),
+        _ => Ok(0),
     }
 }
 
@@ -42,31 +40,24 @@ fn opening(send: u32, receive: u32) -> Start {
 }
 
 // One card sends, and the other receives.
-fn exchange() -> u32 {
-    let here = Connection::start(opening(10, 900));
-    let there = Connection::start(opening(900, 10));
-    let near = here.record;
-    let far = there.record;
-    let sending = near.step(Use::Sends(Sending::Send { size: 100 }));
-    let sent = sending.answer;
-    let after = sending.record;
-    match sent {
-        Answer::Sent(psn) => {
-            let arriving = far.step(Use::Receives(Arrival {
-                psn,
-                size: 100,
-                flags: 0,
-                entropy: 7,
-            }));
-            let reply = arriving.answer;
-            heard(after, reply)
-        }
-        _ => 0,
-    }
+fn exchange() -> Result<u32, Refusal> {
+    let near = Connection::start(opening(10, 900)).next;
+    let far = Connection::start(opening(900, 10)).next;
+    let sent = near.step(Use::Sends(Sending::Send { size: 100 }));
+    let Answer::Sent(psn) = sent.answer? else {
+        return Ok(0);
+    };
+    let arrived = far.step(Use::Receives(Arrival {
+        psn,
+        size: 100,
+        flags: 0,
+        entropy: 7,
+    }));
+    heard(sent.next, arrived.answer?)
 }
 
 fn main() {
-    if exchange() == 1 {
+    if exchange() == Ok(1) {
         io::write_all(1, b"one packet retired\n");
     }
 }

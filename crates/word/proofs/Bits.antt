@@ -3,13 +3,15 @@ use mathlib.Core.Path.{◌≡◌, refl, sym, ap, ap₂, ◌∙◌}
 use mathlib.Core.Bool.{Bool, true, false, not, cond, ◌&&◌, ◌||◌, or-false}
 use Prim.Native.Nat.{ℕ, zero, suc, ◌+◌, ◌-◌, ◌*◌, ◌/◌, ◌%◌, ◌^◌, ◌≤◌, ◌<◌, min, max}
 use native.Mathlib.Omega.{arith}
-use native.Mathlib.Nat.{pow-suc, mul_comm, zero-div, one-mul, mod-eq_of_lt, div-eq_of_lt, div-div-eq-div-mul, lt_of_lt_of_le}
-use native.Mathlib.Decide.{dec_lt}
-use lib.Dec.{ltb, eqb, leb-suc-suc, eqb-suc-suc}
-use lib.Pow.{pow_pos, pow-lt, pow_mono, shr-shr, shl-shr, field, mod-mod-pow}
-use lib.Bits.{bit_and, bit_or, and_shr, and_step, or_shr, or_step, shifted_half, shifted_even}
+use native.Mathlib.Nat.{pow-suc, one-mul, mod-eq_of_lt}
+use native.Mathlib.Decide.{ℕ_discrete, dec_lt}
+use lib.Dec.{ltb, eqb, eqb-suc-suc}
+use lib.Pow.{pow_pos, pow-lt, shr-shr, shl-shr, field, mod-mod-pow}
+use lib.Bits.{bit_and, bit_or, shifted_half, shifted_even}
 use lib.Count.{ones, ones_in, ones_step, count_trailing_zeros, under}
 use borrow.Author.Tests.{eq-eqb, ne_eqb, lt-ltb, le-ltb}
+use Rattle.std.specs.Int.{w64}
+use Rattle.std.proofs.lemmas.Nat.Bits.{bit_at-suc, bit_at-zero, bit_at_and as digit_and, bit_at_or as digit_or, bit_at-lt, bit_at_above, bit_at_ones, bit_at_ones_above, bit_at-pow_same, bit_at-pow_other, bit_at_not}
 use Rattle.lists.specs.Index.{total, tally, First}
 use Rattle.word.specs.Word.{bit_at, Bits}
 use Rattle.lists.proofs.Index.{total_first, weigh_same}
@@ -21,13 +23,14 @@ two P a b (suc zero) h = b
 two P a b (suc (suc d)) h = absurd (omega arith)
 
 -- ---- one bit, by halves
+-- as a test of the library's digit
 pub bit_suc : (n i : ℕ) → bit_at n (suc i) ≡ bit_at (n / 2) i
 unfolding bit_at
-bit_suc n i = ap (λ (x : ℕ). eqb (x % 2) 1) (ap (λ (x : ℕ). n / x) (pow-suc 2 i ∙ mul_comm (2 ^ i) 2) ∙ sym (div-div-eq-div-mul n 2 (2 ^ i)))
+bit_suc n i = ap (λ (d : ℕ). eqb d 1) (bit_at-suc n i)
 
 pub bit_none : (i : ℕ) → bit_at 0 i ≡ false
 unfolding bit_at
-bit_none i = ap (λ (x : ℕ). eqb (x % 2) 1) (zero-div (2 ^ i))
+bit_none i = ap (λ (d : ℕ). eqb d 1) (bit_at-zero i)
 
 -- the lowest bit, by the remainder
 pub bit_even : (w : ℕ) → w % 2 ≡ 0 → bit_at w 0 ≡ false
@@ -63,74 +66,54 @@ bits_one v w f p q a b = same_bits 64 v w p q (λ i l. a i l ∙ sym (b i l))
 -- no bit past the end
 pub bit_past : (n w i : ℕ) → w < 2 ^ n → n ≤ i → bit_at w i ≡ false
 unfolding bit_at
-bit_past n w i p q = ap (λ (x : ℕ). eqb (x % 2) 1) (div-eq_of_lt (lt_of_lt_of_le p (pow_mono q)))
+bit_past n w i p q = ap (λ (d : ℕ). eqb d 1) (bit_at_above w n i p q)
 
 -- ---- words that are given by their bits
 -- the bits below k
 pub bit_low : (k i : ℕ) → bit_at (2 ^ k - 1) i ≡ ltb i k
-bit_low zero i = bit_none i ∙ sym (le-ltb i 0 (omega arith))
-bit_low (suc k) zero = bit_odd (2 ^ suc k - 1) (omega (arith, pow-suc 2 k, pow_pos k)) ∙ sym (lt-ltb 0 (suc k) (omega arith))
-bit_low (suc k) (suc i) =
-    let q : (2 ^ suc k - 1) / 2 ≡ 2 ^ k - 1 = omega (arith, pow-suc 2 k, pow_pos k) in
-    bit_suc (2 ^ suc k - 1) i ∙ ap (λ (y : ℕ). bit_at y i) q ∙ bit_low k i ∙ sym (leb-suc-suc (suc i) k)
+unfolding bit_at
+bit_low k i = elim (dec_lt i k) [
+  | yes l ↦ ap (λ (d : ℕ). eqb d 1) (bit_at_ones k i l) ∙ sym (lt-ltb i k l)
+  | no l ↦ ap (λ (d : ℕ). eqb d 1) (bit_at_ones_above k i (omega arith)) ∙ sym (le-ltb i k (omega arith))
+]
 
 -- bit d alone
 pub bit_one : (d i : ℕ) → bit_at (2 ^ d) i ≡ eqb i d
-bit_one zero zero = bit_odd 1 refl
-bit_one zero (suc i) = bit_suc 1 i ∙ bit_none i ∙ sym (ne_eqb (suc i) 0 (omega arith))
-bit_one (suc d) zero = bit_even (2 ^ suc d) (omega (arith, pow-suc 2 d)) ∙ sym (ne_eqb 0 (suc d) (omega arith))
-bit_one (suc d) (suc i) =
-    let q : 2 ^ suc d / 2 ≡ 2 ^ d = omega (arith, pow-suc 2 d) in
-    bit_suc (2 ^ suc d) i ∙ ap (λ (y : ℕ). bit_at y i) q ∙ bit_one d i ∙ sym (eqb-suc-suc i d)
+unfolding bit_at
+bit_one d i = elim (ℕ_discrete i d) [
+  | yes e ↦ ap (λ (j : ℕ). eqb (2 ^ d / 2 ^ j % 2) 1) e ∙ ap (λ (b : ℕ). eqb b 1) (bit_at-pow_same d) ∙ sym (eq-eqb i d e)
+  | no n ↦ ap (λ (b : ℕ). eqb b 1) (bit_at-pow_other d i n) ∙ sym (ne_eqb i d n)
+]
 
 -- 1, shifted within a word of n bits
 pub shl_one : (n i : ℕ) → i < n → (1 * 2 ^ i) % 2 ^ n ≡ 2 ^ i
 shl_one n i h = ap (λ (x : ℕ). x % 2 ^ n) (one-mul (2 ^ i)) ∙ mod-eq_of_lt (pow-lt h)
 
 -- ---- and, or, not
--- an operation that goes digit by digit, on two digits by `digit` and on two bits by `on`
-module _ (op digit : ℕ → ℕ → ℕ) (on : Bool → Bool → Bool)
-    (shr : (a b k : ℕ) → op a b / 2 ^ k ≡ op (a / 2 ^ k) (b / 2 ^ k))
-    (step : (a b : ℕ) → op a b ≡ op (a / 2) (b / 2) * 2 + digit (a % 2) (b % 2))
-    (small : (a b : ℕ) → a < 2 → b < 2 → digit a b < 2)
-    (on00 : eqb (digit 0 0) 1 ≡ on false false) (on01 : eqb (digit 0 1) 1 ≡ on false true)
-    (on10 : eqb (digit 1 0) 1 ≡ on true false) (on11 : eqb (digit 1 1) 1 ≡ on true true) where
-  abbrev Same : ℕ → ℕ → Type 0
-  Same a b = eqb (digit a b) 1 ≡ on (eqb a 1) (eqb b 1)
-
-  same : (a : ℕ) → a < 2 → (b : ℕ) → b < 2 → Same a b
-  same = two (λ a. (b : ℕ) → b < 2 → Same a b) (two (Same 0) on00 on01) (two (Same 1) on10 on11)
-
-  bit_by_bit : (v w i : ℕ) → bit_at (op v w) i ≡ on (bit_at v i) (bit_at w i)
-  unfolding bit_at
-  bit_by_bit v w i =
-      let x : ℕ = v / 2 ^ i in
-      let y : ℕ = w / 2 ^ i in
-      let s = small (x % 2) (y % 2) (omega arith) (omega arith) in
-      let last : op v w / 2 ^ i % 2 ≡ digit (x % 2) (y % 2) = omega (arith, shr v w i, step x y) in
-      ap (λ (n : ℕ). eqb n 1) last ∙ same (x % 2) (omega arith) (y % 2) (omega arith)
+-- on two digits
+both : (P : ℕ → ℕ → Type 0) → P 0 0 → P 0 1 → P 1 0 → P 1 1 → (a b : ℕ) → a < 2 → b < 2 → P a b
+both P p00 p01 p10 p11 a b l m = two (λ a. (b : ℕ) → b < 2 → P a b) (two (P 0) p00 p01) (two (P 1) p10 p11) a l b m
 
 pub bit_at_and : (v w i : ℕ) → bit_at (bit_and v w) i ≡ (bit_at v i && bit_at w i)
-bit_at_and = bit_by_bit bit_and min (λ x y. x && y) and_shr and_step (λ a b p q. omega arith) refl refl refl refl
+unfolding bit_at
+bit_at_and v w i =
+    ap (λ (d : ℕ). eqb d 1) (digit_and v w i)
+    ∙ both (λ a b. eqb (min a b) 1 ≡ (eqb a 1 && eqb b 1)) refl refl refl refl _ _ (bit_at-lt v i) (bit_at-lt w i)
 
 pub bit_at_or : (v w i : ℕ) → bit_at (bit_or v w) i ≡ (bit_at v i || bit_at w i)
-bit_at_or = bit_by_bit bit_or max (λ x y. x || y) or_shr or_step (λ a b p q. omega arith) refl refl refl refl
+unfolding bit_at
+bit_at_or v w i =
+    ap (λ (d : ℕ). eqb d 1) (digit_or v w i)
+    ∙ both (λ a b. eqb (max a b) 1 ≡ (eqb a 1 || eqb b 1)) refl refl refl refl _ _ (bit_at-lt v i) (bit_at-lt w i)
 
--- a word of n bits, flipped
-pub bit_not : (n w i : ℕ) → w < 2 ^ n → i < n → bit_at ((2 ^ n - 1) - w) i ≡ not (bit_at w i)
-bit_not zero w i h l = absurd (omega arith)
-bit_not (suc n) w zero h l =
-    two (λ d. w % 2 ≡ d → bit_at ((2 ^ suc n - 1) - w) 0 ≡ not (bit_at w 0))
-    (λ e. rw (bit_even w e) (bit_odd ((2 ^ suc n - 1) - w) (omega (arith, pow-suc 2 n))))
-    (λ e. rw (bit_odd w e) (bit_even ((2 ^ suc n - 1) - w) (omega (arith, pow-suc 2 n)))) (w % 2) (omega arith) refl
-bit_not (suc n) w (suc i) h l =
-    let p = pow-suc 2 n in
-    let x = (2 ^ suc n - 1) - w in
-    let q : x / 2 ≡ (2 ^ n - 1) - w / 2 = omega arith in
-    bit_suc x i ∙ ap (λ (y : ℕ). bit_at y i) q ∙ bit_not n (w / 2) i (omega arith) (omega arith) ∙ ap not (sym (bit_suc w i))
+-- a word, flipped
+pub bit_not : (w i : ℕ) → w < 2 ^ 64 → i < 64 → bit_at ((2 ^ 64 - 1) - w) i ≡ not (bit_at w i)
+unfolding bit_at
+bit_not w i h l =
+    ap (λ (d : ℕ). eqb d 1) (bit_at_not w64 w i h l) ∙ two (λ d. eqb (1 - d) 1 ≡ not (eqb d 1)) refl refl _ (bit_at-lt w i)
 
-pub bit_and_not : (n v w i : ℕ) → w < 2 ^ n → i < n → bit_at (bit_and v ((2 ^ n - 1) - w)) i ≡ (bit_at v i && not (bit_at w i))
-bit_and_not n v w i h l = bit_at_and v ((2 ^ n - 1) - w) i ∙ ap (λ (b : Bool). bit_at v i && b) (bit_not n w i h l)
+pub bit_and_not : (v w i : ℕ) → w < 2 ^ 64 → i < 64 → bit_at (bit_and v ((2 ^ 64 - 1) - w)) i ≡ (bit_at v i && not (bit_at w i))
+bit_and_not v w i h l = bit_at_and v ((2 ^ 64 - 1) - w) i ∙ ap (λ (b : Bool). bit_at v i && b) (bit_not w i h l)
 
 -- ---- shifts
 pub bit_shr : (w k i : ℕ) → bit_at (w / 2 ^ k) i ≡ bit_at w (k + i)

@@ -6,6 +6,7 @@ ghost use Rattle.lists.specs.Index.{First, tally};
 ghost use Rattle.word.specs.Word.{bit_at, Bits, in_range, bit_of_two, only_in};
 
 // Whether bit i is set.
+#[tactic(auto, unfolding(crate::specs::Word::bit_at))]
 pub fn test(w: u64, i: u32) -> bool
     ensures { result ≡ bit_at w (i % 64) }
 {
@@ -19,7 +20,7 @@ pub fn set(w: u64, i: u32) -> u64
     w | (1u64 << (i % 64))
 }
 
-// The word with bit i clear.
+// The word with bit i clear. One expression, as `set` is: there is nothing for the two to share.
 pub fn clear(w: u64, i: u32) -> u64
     ensures { Bits result (λ k. bit_at w k && not (eqb k (i % 64))) }
 {
@@ -31,7 +32,7 @@ pub fn low(k: u32) -> u64
     ensures { Bits result (λ i. ltb i k) }
 {
     if 64 <= k {
-        return 18_446_744_073_709_551_615;
+        return u64::MAX;
     }
     (1u64 << k) - 1
 }
@@ -65,22 +66,19 @@ pub fn across(low: u64, high: u64, s: u32) -> u64
 pub fn lowest(w: u64) -> u32
     ensures { First (bit_at w) 64 result }
 {
-    u64::trailing_zeros(w)
+    w.trailing_zeros()
 }
 
 // The word without its lowest set bit: 0 where none is set.
 pub fn without_lowest(w: u64) -> u64
     ensures { (t : ℕ) → First (bit_at w) 64 t → Bits result (λ i. bit_at w i && not (eqb i t)) }
 {
-    if w == 0 {
-        return 0;
-    }
-    w & (w - 1)
+    w & w.wrapping_sub(1)
 }
 
 // How many bits are set.
 pub fn ones(w: u64) -> u32
     ensures { result ≡ tally 64 (bit_at w) }
 {
-    u64::count_ones(w)
+    w.count_ones()
 }

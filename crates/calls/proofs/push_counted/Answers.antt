@@ -6,11 +6,11 @@ use Rattle.receiving.specs.Lent.{Started}
 use Rattle.receiving.proofs.Counting.{with_count, with_count_started}
 use Rattle.calls.proofs.push_counted.Goals as goal
 
-counted : (x : Receiver) (n : ℕ) → Sound x → (x.room ≡ 0 → ⊥) → Started (with_count (lent_of x) n)
-counted x n s used = ⊎_elim (λ e. absurd (used (ap (λ (y : Receiver). y.room) e))) (with_count_started (lent_of x) n) s
+counted : (x : Receiver) (n : ℕ) → Sound x → (x.head.room ≡ 0 → ⊥) → Started (with_count (lent_of x) n)
+counted x n s used = ⊎_elim (λ e. absurd (used (ap (λ (y : Receiver). y.head.room) e))) (with_count_started (lent_of x) n) s
 
 pub push_lent-requires : goal.push_lent-requires
-push_lent-requires c = inr (counted _ _ c.start-begun.ensures.sound c.if-room-eq0.false)
+push_lent-requires c = inr (counted _ _ c.start-begun.ensures.sound c.if-r-eq0.false)
 
 pub push_arrived-requires : goal.push_arrived-requires
-push_arrived-requires c = inr (counted _ _ c.start-begun.ensures.sound c.if-room-eq0.false)
+push_arrived-requires c = inr (counted _ _ c.start-begun.ensures.sound c.if-r-eq0.false)

@@ -1,35 +1,20 @@
--- `fields::size` meets its contract: after i widths their bits are summed. Assumes nothing.
-use mathlib.Core.Path.{refl, sym, ap, ◌∙◌}
-use Prim.Native.Nat.{ℕ, ◌+◌, ◌/◌}
-use native.Mathlib.Omega.{arith}
-use lib.ListN.{get_or}
-use lib.Seq.{take_all}
+-- `fields::size` meets its contract: the words' sum and the library's are one. Assumes nothing.
+use Rattle.std.proofs.Common.{◌≡◌, ◌^◌, ◌<◌, ℕ, List, refl, arith, rules}
+use Rattle.std.specs.List.{sum_by}
+use Rattle.std.proofs.lemmas.List.Recursion.{is_sum_by}
 use Rattle.lists.specs.Lists.{sum}
-use Rattle.fields.proofs.Joining.{sum_next, sum_within}
 use Rattle.fields.proofs.size.Goals as goal
 
-pub loop-i-init : goal.loop-i-init
+sum_is : (ws : List ℕ) → sum ws ≡ sum_by (λ x. x) ws
 unfolding sum
-loop-i-init c = (omega arith, refl)
+sum_is = is_sum_by sum (λ x. x) refl (λ _ _. refl)
 
-pub overflow_cast-bits : goal.overflow_cast-bits
-overflow_cast-bits c = omega (arith, c.shared_slice_known-1.given c.loop-i.i)
-
-pub overflow_add-bits : goal.overflow_add-bits
-overflow_add-bits c =
-    let entry = c.before.before.before in
-    let ws = entry.args.widths.now in
-    let i = c.loop-i.i in
-    omega (arith, sum_next ws i c.loop-i-test.true, sum_within ws (i + 1), entry.requires.short)
-
-pub loop-i-preserved : goal.loop-i-preserved
-loop-i-preserved c =
-    let ws = c.args.widths.now in
-    let l = c.loop-i in
-    (omega arith, ap (λ (n : ℕ). n + get_or ws l.i 0) l.invariant.1 ∙ sym (sum_next ws l.i c.loop-i-test.true))
+pub sum-bits-requires-clause-fits : goal.sum-bits-requires-clause-fits
+sum-bits-requires-clause-fits c =
+    let fits : sum_by (λ x. x) c.args.widths.now < 2 ^ 64 = omega (arith, sum_is c.args.widths.now) in
+    search rules
 
 pub returns : goal.returns
 returns c =
-    let ws = c.args.widths.now in
-    let l = c.loop-i in
-    ap (λ (n : ℕ). n / 8) (l.invariant.1 ∙ ap sum (take_all l.i ws (omega arith)))
+    let total : c.sum-bits.result ≡ sum_by (λ x. x) c.args.widths.now = search rules in
+    rw (total, sum_is c.args.widths.now)

@@ -1,24 +1,29 @@
--- `kinds::widths` meets its contract: each width is that of its cell. Assumes nothing.
-use mathlib.Core.Path.{◌≡◌}
-use mathlib.Core.List.{List, [], ◌∷◌}
-use Prim.Native.Nat.{ℕ}
-use lib.ListN.{get_or}
-use Rattle.lists.specs.Index.{table}
+-- `kinds::widths` meets its contract: cell by cell, and a number that is no kind's has no cells. Assumes nothing.
+use mathlib.Core.Path.{◌≡◌, sym, ap, ◌∙◌}
+use mathlib.Core.List.{List, map}
+use Prim.Native.Nat.{ℕ, ◌<◌}
+use lib.ListN.{length, get_or, get_or-map}
+use Rattle.std.proofs.Common.{rules}
+use Rattle.lists.proofs.Index.{is_table}
 use Rattle.rules.specs.Kinds.{layout, width, widths}
 use Rattle.rules.specs.declared.Cell.{Cell}
-use Rattle.kinds.specs.Padded.{padded, padded_cells}
-use Rattle.kinds.proofs.Padded.{widths_padded}
+use Rattle.rules.specs.declared.Cell.TheVariants.{Bits}
+use Rattle.rules.proofs.Tried.{kind_known}
+use Rattle.kinds.specs.Padded.{most, padded, padded_cells}
+use Rattle.kinds.proofs.Padded.{cell_at}
 use Rattle.kinds.proofs.widths.Goals as goal
 
--- one after the other they are all
-all_four : (k : ℕ) (cells : List Cell) (d : Cell) (w x y z : ℕ) → cells ≡ padded_cells (layout k)
-    → w ≡ width (get_or cells 0 d) → x ≡ width (get_or cells 1 d) → y ≡ width (get_or cells 2 d) → z ≡ width (get_or cells 3 d)
-    → w ∷ x ∷ y ∷ z ∷ [] ≡ padded (widths k)
-unfolding padded_cells table widths
-all_four k cells d w x y z e p q r s = rw (p, q, r, s, e) (widths_padded (layout k))
+all_widths : (k : ℕ) (cells : List Cell) (ws : List ℕ) → cells ≡ padded_cells (layout k) → length ws ≡ most
+    → ((i : ℕ) → i < most → get_or ws i 0 ≡ width (get_or cells i (Bits 0))) → ws ≡ padded (widths k)
+unfolding padded widths width
+all_widths k cells ws e n h =
+    let cs = layout k in
+    let c : (i : ℕ) → i < most → get_or cells i (Bits 0) ≡ get_or cs i (Bits 0) =
+    λ i l. ap (λ (x : List Cell). get_or x i (Bits 0)) e ∙ cell_at cs i (Bits 0) l in
+    is_table ws most (λ i. get_or (map width cs) i 0) 0 n (λ i l. h i l ∙ ap width (c i l) ∙ sym (get_or-map width cs i (Bits 0)))
 
-pub returns : goal.returns
-returns c =
-    let w = c.before.before.before.before.before.before in
-    all_four _ _ _ _ _ _ _ w.layout-cells.ensures w.width.ensures
-    c.width-2.ensures c.width-3.ensures c.width-4.ensures
+pub returns-in-Ok : goal.returns-in-Ok
+returns-in-Ok c =
+    let k = kind_known c.args.kind c.in-Ok.kind c.in-Ok.ensures in
+    all_widths c.args.kind c.layout.result c.map.result (c.layout.ensures ∙ ap (λ (n : ℕ). padded_cells (layout n)) k.1) c.map.ensures.items.long
+    (λ i l. let h = c.map.ensures.items.at i (Bits 0) 0 l in search rules)

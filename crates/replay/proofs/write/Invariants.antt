@@ -1,11 +1,7 @@
 -- `write` meets its contract: what is written so far is the start of a run of pieces, and what is left of the log falls. Assumes nothing.
-use borrow.Author.Tests.{not-true, not-false}
-use mathlib.Core.Path.{sym}
-use Prim.Native.Nat.{ℕ, ◌-◌}
-use native.Mathlib.Omega.{arith}
-use lib.ListN.{length, length-replicate, length-take}
-use lib.Seq.{length-take-le}
-use Rattle.replay.proofs.Written.{buffer, Written, written_none, written_more, written_ends}
+use Prim.Native.Nat.{◌-◌}
+use lib.ListN.{length}
+use Rattle.replay.proofs.Written.{Written}
 use Rattle.replay.proofs.write.Given as goal
 
 abbrev pub invariant-loop-out : goal.invariant-loop-out

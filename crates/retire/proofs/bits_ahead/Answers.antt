@@ -1,13 +1,12 @@
 -- `bits_ahead` meets its contract: those ahead run from n up to half round the circle, and the block meets that run in one range; where n
 -- is half or more there is none. Assumes nothing.
-use mathlib.Core.Path.{◌≡◌, ap, ◌∙◌}
+use mathlib.Core.Path.{ap, ◌∙◌}
 use Prim.Native.Nat.{ℕ, ◌+◌, ◌-◌, ◌%◌}
 use native.Mathlib.Omega.{arith}
 use Rattle.psn.specs.Psn.{turn, half}
 use Rattle.word.specs.Word.{in_range}
 use Rattle.retire.specs.Rows.{ahead}
 use Rattle.retire.proofs.Naming.{ahead_near, ahead_far, ahead_none, turned_in}
-use Rattle.retire.proofs.bits_ahead.Goals.{then-at-n, else-at-n}
 use Rattle.retire.proofs.bits_ahead.Goals as goal
 
 pub returns-then-n-ge-HALF : goal.returns-then-n-ge-HALF
@@ -18,12 +17,11 @@ returns-then-at-lt-HALF c =
     λ j l.
     let n = c.args.n in
     let at = c.args.o % turn in
-    let from_is : c.if-at-n.from ≡ n - at = elim c.if-at-n.branch [ then-at-n w ↦ w.from-is | else-at-n w ↦ w.from-is ∙ omega arith ] in
-    c.range.ensures j l ∙ ap (λ (a : ℕ). in_range a (half - at) j) from_is ∙ ahead_near at n j l c.if-at-lt-HALF.true
+    c.range.ensures j l ∙ ap (λ (a : ℕ). in_range a (half - at) j) c.saturating_sub.ensures ∙ ahead_near at n j l c.if-at-lt-HALF.true
     ∙ ap (ahead n) (turned_in c.args.o j)
 
-pub returns : goal.returns
-returns c =
+pub returns-else-at-lt-HALF : goal.returns-else-at-lt-HALF
+returns-else-at-lt-HALF c =
     λ j l.
     let n = c.args.n in
-    c.range-2.ensures j l ∙ ahead_far (c.args.o % turn) n j l c.if-at-lt-HALF.false (omega arith) ∙ ap (ahead n) (turned_in c.args.o j)
+    c.range-else-at-lt-HALF.ensures j l ∙ ahead_far (c.args.o % turn) n j l c.if-at-lt-HALF.false (omega arith) ∙ ap (ahead n) (turned_in c.args.o j)

@@ -1,12 +1,11 @@
--- `push_values` meets its contract: after i turns the first i values are put, and the values left fall. Assumes nothing.
-use Prim.Native.Nat.{◌-◌, ◌≤◌}
-use lib.ListN.{take}
-use Rattle.lines.specs.Text.{Puts}
+-- `push_values` meets its contract: after some turns the values of these turns are put. Assumes nothing.
+use Rattle.std.proofs.Common.{◌≡◌, map}
+use Rattle.lines.specs.Text.{PutsOn}
 use Rattle.text.specs.Text.{spaced}
 use Rattle.text.proofs.push_values.Given as goal
 
-abbrev pub invariant-loop-i : goal.invariant-loop-i
-invariant-loop-i l = (l.i ≤ 8) × (l.i ≤ l.many) × Puts l.initial.out l.at (spaced (take l.i l.values)) l.out l.p
-
-abbrev pub decreases-loop-i : goal.decreases-loop-i
-decreases-loop-i l = 8 - l.i
+abbrev pub invariant-loop-v : goal.invariant-loop-v
+invariant-loop-v l = record {
+  same : l.page.bytes.ghost_name ≡ l.initial.page.bytes.ghost_name;
+  puts : PutsOn l.initial.page (spaced (map (λ y. y.now) l.yielded)) l.page;
+}

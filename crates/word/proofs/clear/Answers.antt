@@ -16,4 +16,4 @@ returns c =
     let i = c.args.i % 64 in
     let l : i < 64 = omega arith in
     ap (λ (x : ℕ). bit_at (bit_and w ((2 ^ 64 - 1) - x)) k) (shl_one 64 i l)
-    ∙ bit_and_not 64 w (2 ^ i) k (pow-lt l) h ∙ ap (λ (b : Bool). bit_at w k && not b) (bit_one i k)
+    ∙ bit_and_not w (2 ^ i) k (pow-lt l) h ∙ ap (λ (b : Bool). bit_at w k && not b) (bit_one i k)

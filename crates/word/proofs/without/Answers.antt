@@ -3,4 +3,4 @@ use Rattle.word.proofs.Bits.{bit_and_not}
 use Rattle.word.proofs.without.Goals as goal
 
 pub returns : goal.returns
-returns c = λ i h. bit_and_not 64 c.args.v c.args.w i c.ranges.w.fits h
+returns c = λ i h. bit_and_not c.args.v c.args.w i c.ranges.w.fits h

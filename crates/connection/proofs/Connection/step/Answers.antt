@@ -1,15 +1,11 @@
--- `Connection::step` meets its contract: a close is the record's, and any other event is one of a side. Assumes nothing.
-use mathlib.Core.Path.{ap}
+-- `Connection::step` meets its contract: a close, or an event on one of its sides. Assumes nothing.
+use Rattle.connection.proofs.Sides.{on_sender, on_receiver, sender_sound}
 use Rattle.rules.specs.Connection.{step}
 use Rattle.connection.specs.Record.{meaning}
-use Rattle.connection.proofs.Sides.{sender_sound, receiver_sound, by_sender, by_receiver}
 use Rattle.connection.proofs.Connection.step.Goals as goal
 
-pub step-requires : goal.step-requires
-step-requires c = sender_sound c.args.self c.requires
-
-pub step-requires-in-Receives : goal.step-requires-in-Receives
-step-requires-in-Receives c = receiver_sound c.args.self c.requires
+pub step-answer-requires : goal.step-answer-requires
+step-answer-requires c = sender_sound _ c.requires
 
 pub returns-in-Close : goal.returns-in-Close
 unfolding step
@@ -17,10 +13,8 @@ returns-in-Close c = rw c.in-Close.is c.close.ensures
 
 pub returns-in-Sends : goal.returns-in-Sends
 unfolding step meaning
-returns-in-Sends c =
-    by_sender c.args.self c.requires c.in-Sends.e c.step.result (ap (step (meaning c.args.self)) c.in-Sends.is) c.sent.ensures c.step.ensures
+returns-in-Sends c = rw c.in-Sends.is (on_sender _ c.requires _ _ _ c.step-answer.ensures)
 
 pub returns-in-Receives : goal.returns-in-Receives
 unfolding step meaning
-returns-in-Receives c =
-    by_receiver c.args.self c.requires c.in-Receives.e c.step-in-Receives.result (ap (step (meaning c.args.self)) c.in-Receives.is) c.received.ensures c.step-in-Receives.ensures
+returns-in-Receives c = rw c.in-Receives.is (on_receiver _ c.requires _ _ _ c.step-answer-in-Receives.ensures)

@@ -5,14 +5,11 @@ use Rattle.receiving.specs.Lent.{lent}
 use Rattle.receiving.proofs.Entries.{fresh_within}
 use Rattle.receiving.proofs.Accepting.{accept_started, accept_means}
 use Rattle.receiving.proofs.Head.accept.Goals as goal
-use Rattle.receiving.proofs.Head.accept.Goals.{After-distance-d}
-
-inside : (c : After-distance-d) → c.distance-d.result < c.args.self.room
-inside c = fresh_within (lent c.args.self c.args.words.now) c.args.a c.distance-d.result c.distance-d.ensures c.requires.1
 
 pub overflow_add-s : goal.overflow_add-s
 overflow_add-s c =
-    omega (arith, inside (goal.at.overflow_add-s c).After-distance-d, room_numbers c.args.self.room c.requires.0.room_good)
+    let x = lent c.args.self c.args.words.now in
+    omega (arith, fresh_within x c.args.a c.requires.1, room_numbers x.head.room c.requires.0.room_good)
 
 pub overflow_add-s-2 : goal.overflow_add-s-2
 overflow_add-s-2 c = omega (arith, room_numbers c.args.self.room c.requires.0.room_good)
@@ -21,7 +18,7 @@ pub returns : goal.returns
 returns c =
     let x = lent c.args.self c.args.words.now in
     let h = c.requires.0 in
-    let l = inside (goal.at.returns c).After-distance-d in
+    let l : c.distance-d.result < x.head.room = omega (arith, fresh_within x c.args.a c.requires.1) in
     record {
       started =
           accept_started x h c.distance-d.result l c.set.new.ws c.set.ensures c.run_from-t.result c.run_from-t.ensures c.shed.new.ws
