@@ -1,12 +1,12 @@
 -- Two sides which are each started make a connection that is. Assumes nothing.
 use mathlib.Core.Path.{◌≡◌, refl, sym, ap, ◌∙◌, subst}
 use mathlib.Core.Bool.{true, false}
-use mathlib.Core.Logic.{inl, inr}
+use mathlib.Core.Logic.{inr}
 use lib.ListN.{length, length-replicate}
 use borrow.Author.Tests.{not-false}
-use Rattle.std.specs.Prelude.{Result, Ok, Err}
+use Rattle.std.specs.Prelude.{Ok, Err}
 use Rattle.promise.specs.Outcome.{Outcome, Refused, unless, left}
-use Rattle.promise.specs.Promise.{told, Opens}
+use Rattle.promise.specs.Promise.{told}
 use Rattle.promise.proofs.Refusing.{Past, none_left}
 use Rattle.promise.proofs.Meeting.{refuses, does}
 use Rattle.rules.specs.Numbers.{psn_ok, room_ok}
@@ -27,13 +27,14 @@ use Rattle.receiving.specs.Lent as lent
 use Rattle.receiver.specs.declared.Receiver.{Receiver}
 use Rattle.receiver.specs.Record as receiver
 use Rattle.connection.specs.declared.Connection.{Connection}
-use Rattle.connection.specs.Record.{meaning, Begins}
+use Rattle.connection.specs.Record.{meaning, empty, Sound, Steps}
 use Rattle.connection.proofs.Sides.{sender_in_use, receiver_in_use}
 
 -- ---- the rule refuses a start, and so does the code
-pub not_begun : (o : Outcome Answer rule.Connection) (r : Result Connection Refusal) (why : Refusal) → o ≡ Refused (number why) → r ≡ Err why → Begins o r
-unfolding Opens told
-not_begun o r why rule said = subst (Begins o) (sym said) (refuses (number why) rule refl refl (inl refl))
+pub not_begun : (o : Outcome Answer rule.Connection) (r : Reply) (why : Refusal) (c : Connection) → Sound c → o ≡ Refused (number why) → r ≡ Err why
+    → Steps c o r c
+unfolding told
+not_begun o r why c sound rule said = subst (λ (q : Reply). Steps c o q c) (sym said) (refuses (number why) rule refl refl sound)
 
 -- ---- a side that is started
 module _ (o : Opening) (good : room_ok o.room ≡ true) (low : psn_ok o.first ≡ true) where
@@ -63,8 +64,9 @@ module _ (o : Opening) (good : room_ok o.room ≡ true) (low : psn_ok o.first �
 -- ---- the two together, where no refusal passes
 module _ (s : Start) (passed : Past (start_refusals s) (length (start_refusals s))) where
   pub starts : (r q : Reply) (x : Sender) (y : Receiver) → sender.Steps sender.empty (rule_sender.start s.sending) r x
-      → receiver.Steps receiver.empty (rule_receiver.start s.receiving) q y → Begins (start s) (Ok (record { sender = x; receiver = y }))
-  unfolding meaning start start_refusals fresh Past Opens
+      → receiver.Steps receiver.empty (rule_receiver.start s.receiving) q y
+      → Steps empty (start s) (Ok answer.Started) (record { sender = x; receiver = y })
+  unfolding meaning start start_refusals fresh Past
   starts r q x y m n =
       let send_good = not-false (room_ok s.sending.room) passed.0 in
       let receive_good = not-false (room_ok s.receiving.room) passed.1.0 in

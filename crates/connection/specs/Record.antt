@@ -1,13 +1,11 @@
 -- A connection by value: what it means, and which there are.
-use Rattle.std.specs.Prelude.{◌≡◌, ◌⊎◌, Result}
+use Rattle.std.specs.Prelude.{◌≡◌, ◌⊎◌}
 use Rattle.promise.specs.Outcome.{Outcome}
-use Rattle.promise.specs.Promise.{Meets, Opens}
+use Rattle.promise.specs.Promise.{Meets}
 use Rattle.rules.specs.Numbered.{number}
 use Rattle.rules.specs.Paper.{paper, Reply}
 use Rattle.rules.specs.Connection as rule
 use Rattle.rules.specs.declared.Answer.{Answer}
-use Rattle.rules.specs.declared.Answer.TheVariants as answer
-use Rattle.rules.specs.declared.Refusal.{Refusal}
 use Rattle.sender.specs.Record as sender
 use Rattle.receiving.specs.Lent as lent
 use Rattle.receiver.specs.Record as receiver
@@ -32,7 +30,3 @@ Sound c = (c ≡ empty) ⊎ Started c
 -- an event on the record c, whose rule gives o, is answered r and leaves d
 abbrev pub Steps : Connection → Outcome Answer rule.Connection → Reply → Connection → Type 0
 Steps c o r d = Meets paper number Sound meaning c o r d
-
--- a start, whose rule gives o, opens a record or is refused
-abbrev pub Begins : Outcome Answer rule.Connection → Result Connection Refusal → Type 0
-Begins o r = Opens paper number Sound meaning empty answer.Started o r

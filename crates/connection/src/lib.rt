@@ -3,7 +3,7 @@
 
 ghost use Rattle.std.specs.Prelude.{◌≡◌, not};
 ghost use Rattle.rules.specs.Connection.{close as close_of, start as start_of, step as step_of, unused};
-ghost use Rattle.connection.specs.Record.{empty as empty_of, meaning, Begins, Sound, Steps};
+ghost use Rattle.connection.specs.Record.{empty as empty_of, meaning, Sound, Steps};
 
 use receiver::Receiver;
 use rules::{Answer, Refusal, Start, Stepped, Use};
@@ -37,12 +37,16 @@ impl Connection {
     pub fn start(opening: Start) -> Stepped<Connection>
         ensures { Steps empty_of (start_of opening) result.answer result.next }
     {
-        Stepped::started(Connection::opened(opening), Connection::empty())
+        let mut next = Connection::empty();
+        let answer = next.open(opening);
+        Stepped { answer, next }
     }
 
-    // The record that a start opens.
-    fn opened(opening: Start) -> Result<Connection, Refusal>
-        ensures { Begins (start_of opening) result }
+    // A start, at the record of no connection. In place: where it opens a record inside a `Result`, which is copied out of it, a start takes four
+    // times as long.
+    fn open(&mut self, opening: Start) -> Result<Answer, Refusal>
+        requires { self.old ≡ empty_of }
+        ensures { Steps self.old (start_of opening) result self.new }
     {
         let Start {
             sending,
@@ -53,10 +57,9 @@ impl Connection {
         Refusal::BadRoom.unless(allowed::room_ok(receiving.room as u32))?;
         Refusal::BadPsn.unless(allowed::psn_ok(sending.first))?;
         Refusal::BadPsn.unless(allowed::psn_ok(receiving.first))?;
-        Ok(Connection {
-            sender: Sender::start(sending).next,
-            receiver: Receiver::start(receiving).next,
-        })
+        self.sender = Sender::start(sending).next;
+        self.receiver = Receiver::start(receiving).next;
+        Ok(Answer::Started)
     }
 
     // A close.

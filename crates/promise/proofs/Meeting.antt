@@ -5,10 +5,10 @@ use mathlib.Core.Bool.{true}
 use Prim.Native.Nat.{ℕ}
 use native.Mathlib.Omega.{arith}
 use lib.ListN.{length}
-use Rattle.std.specs.Prelude.{Result, Ok, Err, MatchResult}
+use Rattle.std.specs.Prelude.{Result, Ok, Err}
 use Rattle.promise.specs.Line.{Line, refused}
 use Rattle.promise.specs.Outcome.{Outcome, Refused, Done, Refusals, unless, left, on_paper, within}
-use Rattle.promise.specs.Promise.{told, Meets, Opens}
+use Rattle.promise.specs.Promise.{told, Meets}
 use Rattle.promise.proofs.Refusing.{Past, test, number, refused_at, none_left}
 use Rattle.promise.proofs.Outcomes.{left_within, on_paper_within}
 
@@ -46,14 +46,6 @@ module _ {A E R S : Type 0} {line : A → Line} {number_of : E → ℕ} {Sound :
     untouched = λ n h. absurd (never_both o s b n e h);
     sound = k;
   }
-
--- a start hands back what it opened, or the refusal with the record of no connection
-pub opened : {A E R S : Type 0} (line : A → Line) (number_of : E → ℕ) (Sound : R → Type 0) (meaning : R → S) (none : R) (begun : A) (o : Outcome A S)
-    (r : Result R E) (a : Result A E) (n y : R) → Opens line number_of Sound meaning none begun o r → n ≡ none
-    → MatchResult r (λ q. (a ≡ Ok begun) × (y ≡ q)) (λ e. (a ≡ Err e) × (y ≡ n)) → Meets line number_of Sound meaning none o a y
-unfolding Opens
-opened line number_of Sound meaning none begun o (Ok q) a n y m k h = rw (h.0, h.1) m
-opened line number_of Sound meaning none begun o (Err e) a n y m k h = rw (h.0, h.1, k) m
 
 -- a refusal of the whole is one of the part
 pub within_refused : {A S T : Type 0} (whole : S → T) (o : Outcome A S) (n : ℕ) → within whole o ≡ Refused n → o ≡ Refused n

@@ -20,9 +20,3 @@ pub record Meets {A E R S : Type 0} (line : A → Line) (number : E → ℕ) (So
   pub untouched : (n : ℕ) → o ≡ Refused n → y ≡ x
   -- the one premise, again
   pub sound : Sound y
-
--- A start whose rule gives the outcome o, from the record `none` of no connection on, opens the record y, and its answer is `begun`; or it is
--- refused, and there is still no connection.
-unfoldable pub Opens : {A E R S : Type 0} → (A → Line) → (E → ℕ) → (R → Type 0) → (R → S) → R → A → Outcome A S → Result R E → Type 0
-Opens line number Sound meaning none begun o (Ok y) = Meets line number Sound meaning none o (Ok begun) y
-Opens line number Sound meaning none begun o (Err e) = Meets line number Sound meaning none o (Err e) none

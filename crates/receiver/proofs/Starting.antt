@@ -1,11 +1,15 @@
--- The first record: nothing from E on is accepted, and all before E in its block of 64 is. Assumes nothing.
-use mathlib.Core.Path.{◌≡◌, sym, ap, ◌∙◌}
+-- A start that is refused leaves the record. The first record: nothing from E on is accepted, and all before E in its block of 64 is. Assumes nothing.
+use mathlib.Core.Path.{◌≡◌, refl, sym, ap, ◌∙◌, subst}
 use mathlib.Core.Bool.{true, false}
 use Prim.Native.Nat.{ℕ, ◌+◌, ◌%◌, ◌≤◌, ◌<◌}
 use native.Mathlib.Omega.{arith}
 use lib.Dec.{ltb}
 use lib.ListN.{set, replicate, length-replicate}
 use borrow.Author.Tests.{lt-ltb, le-ltb}
+use Rattle.std.specs.Prelude.{Err}
+use Rattle.promise.specs.Outcome.{Outcome, Refused}
+use Rattle.promise.specs.Promise.{told}
+use Rattle.promise.proofs.Meeting.{refuses}
 use Rattle.psn.specs.declared.Psn.{Psn}
 use Rattle.word.specs.Word.{Bits}
 use Rattle.lists.proofs.Index.{is_table}
@@ -13,9 +17,22 @@ use Rattle.row.specs.Row.{at, Row}
 use Rattle.row.proofs.Rows.{row_set, at_zeros}
 use Rattle.rules.specs.Numbers.{turn, room_ok, words}
 use Rattle.rules.specs.Receiver.{fresh}
+use Rattle.rules.specs.Receiver as rule
+use Rattle.rules.specs.Numbered.{number}
+use Rattle.rules.specs.Paper.{Reply}
+use Rattle.rules.specs.declared.Answer.{Answer}
+use Rattle.rules.specs.declared.Refusal.{Refusal}
 use Rattle.lists.proofs.Lists.{get_or_alike}
 use Rattle.rules.proofs.Allowed.{room_numbers}
 use Rattle.receiving.specs.Lent.{Lent, lent, offset, accepted, meaning, Started}
+use Rattle.receiver.specs.declared.Receiver.{Receiver}
+use Rattle.receiver.specs.Record.{Sound, Steps}
+
+-- the rule refuses a start, and so does the code
+pub refused_by : (o : Outcome Answer rule.Receiver) (r : Reply) (why : Refusal) (x : Receiver) → Sound x → o ≡ Refused (number why) → r ≡ Err why
+    → Steps x o r x
+unfolding told
+refused_by o r why x sound rule said = subst (λ (q : Reply). Steps x o q x) (sym said) (refuses (number why) rule refl refl sound)
 
 module _ (room : ℕ) (first : Psn) (w : ℕ) (good : room_ok room ≡ true) (low : first.0 < turn) (bits : Bits w (λ i. ltb i (first.0 % 64))) where
   abbrev y : Lent

@@ -1,14 +1,12 @@
 -- A receiver by value: what it means, and which there are.
-use Rattle.std.specs.Prelude.{◌≡◌, ◌⊎◌, replicate, Result}
+use Rattle.std.specs.Prelude.{◌≡◌, ◌⊎◌, replicate}
 use Rattle.rules.specs.Numbers.{psn, words}
 use Rattle.promise.specs.Outcome.{Outcome}
-use Rattle.promise.specs.Promise.{Meets, Opens}
+use Rattle.promise.specs.Promise.{Meets}
 use Rattle.rules.specs.Receiver as rule
 use Rattle.rules.specs.Numbered.{number}
 use Rattle.rules.specs.Paper.{paper, Reply}
 use Rattle.rules.specs.declared.Answer.{Answer}
-use Rattle.rules.specs.declared.Answer.TheVariants as answer
-use Rattle.rules.specs.declared.Refusal.{Refusal}
 use Rattle.receiver.specs.declared.Receiver.{Receiver}
 use Rattle.receiving.specs.Lent.{Lent, Started}
 use Rattle.receiving.specs.Lent as lent
@@ -30,7 +28,3 @@ Sound x = (x ≡ empty) ⊎ Started (lent_of x)
 -- an event on the record x, whose rule gives o, is answered r and leaves y
 abbrev pub Steps : Receiver → Outcome Answer rule.Receiver → Reply → Receiver → Type 0
 Steps x o r y = Meets paper number Sound meaning x o r y
-
--- a start, whose rule gives o, opens a record or is refused
-abbrev pub Begins : Outcome Answer rule.Receiver → Result Receiver Refusal → Type 0
-Begins o r = Opens paper number Sound meaning empty answer.Started o r

@@ -1,17 +1,16 @@
--- A start that is refused leaves no connection. A sender that was just started: the bits below place + 1's are retired, and no other bit is
+-- A start that is refused leaves the record. A sender that was just started: the bits below place + 1's are retired, and no other bit is
 -- set. Assumes nothing.
 use mathlib.Core.Path.{◌≡◌, refl, sym, ap, ◌∙◌, subst}
 use mathlib.Core.Bool.{Bool, true, ◌&&◌, and-false}
 use mathlib.Core.List.{[]}
-use mathlib.Core.Logic.{inl}
 use Prim.Native.Nat.{ℕ, ◌+◌, ◌-◌, ◌%◌}
 use native.Mathlib.Omega.{arith}
 use lib.Dec.{ltb}
 use lib.ListN.{length, set, replicate, length-set, length-replicate}
 use borrow.Author.Tests.{lt-ltb, le-ltb}
-use Rattle.std.specs.Prelude.{Result, Err}
+use Rattle.std.specs.Prelude.{Err}
 use Rattle.promise.specs.Outcome.{Outcome, Refused}
-use Rattle.promise.specs.Promise.{told, Opens}
+use Rattle.promise.specs.Promise.{told}
 use Rattle.promise.proofs.Meeting.{refuses}
 use Rattle.psn.specs.declared.Psn.{Psn}
 use Rattle.psn.specs.Psn.{turn, after}
@@ -21,6 +20,7 @@ use Rattle.row.specs.Row.{at, Row}
 use Rattle.row.proofs.Rows.{row_set, at_zeros}
 use Rattle.rules.specs.Numbers.{room_ok, largest_room, words}
 use Rattle.rules.specs.Numbered.{number}
+use Rattle.rules.specs.Paper.{Reply}
 use Rattle.rules.specs.Sender.{fresh}
 use Rattle.rules.specs.Sender as rule
 use Rattle.rules.specs.declared.Answer.{Answer}
@@ -28,12 +28,13 @@ use Rattle.rules.specs.declared.Refusal.{Refusal}
 use Rattle.rules.proofs.Allowed.{room_numbers}
 use Rattle.sending.specs.Lent.{Lent, lent, meaning, Started}
 use Rattle.sender.specs.declared.Sender.{Sender}
-use Rattle.sender.specs.Record.{Begins}
+use Rattle.sender.specs.Record.{Sound, Steps}
 
 -- the rule refuses a start, and so does the code
-pub refused_by : (o : Outcome Answer rule.Sender) (r : Result Sender Refusal) (why : Refusal) → o ≡ Refused (number why) → r ≡ Err why → Begins o r
-unfolding Opens told
-refused_by o r why rule said = subst (Begins o) (sym said) (refuses (number why) rule refl refl (inl refl))
+pub refused_by : (o : Outcome Answer rule.Sender) (r : Reply) (why : Refusal) (x : Sender) → Sound x → o ≡ Refused (number why) → r ≡ Err why
+    → Steps x o r x
+unfolding told
+refused_by o r why x sound rule said = subst (λ (q : Reply). Steps x o q x) (sym said) (refuses (number why) rule refl refl sound)
 
 -- the bit of the first packet number is that of the place before it and 1
 first_bit : (first : ℕ) → (after first (turn - 1) + 1) % 64 ≡ first % 64

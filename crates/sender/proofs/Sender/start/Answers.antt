@@ -1,6 +1,5 @@
--- `Sender::start` meets its contract: it hands back what it opened. Assumes nothing.
-use Rattle.promise.proofs.Meeting.{opened}
+-- `Sender::start` meets its contract: it is what `open` makes of the empty record. Assumes nothing.
 use Rattle.sender.proofs.Sender.start.Goals as goal
 
 pub returns : goal.returns
-returns c = opened _ _ _ _ _ _ _ _ _ _ _ c.opened.ensures c.empty.ensures c.started.ensures
+returns c = rw c.empty-next.ensures at c.open-answer.ensures

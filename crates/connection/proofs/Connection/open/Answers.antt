@@ -1,6 +1,6 @@
--- `Connection::opened` meets its contract: a return by one of the four tests is the rule's refusal, and where none is taken both sides are
+-- `Connection::open` meets its contract: a return by one of the four tests is the rule's refusal, and where none is taken both sides are
 -- started. Assumes nothing.
-use Rattle.std.proofs.Common.{◌≡◌, refl, sym, ap, ◌∙◌, Bool, true, false, not, cond, length, rules}
+use Rattle.std.proofs.Common.{◌≡◌, refl, sym, ap, ◌∙◌, Bool, true, false, not, cond, length, inl, rules}
 use Rattle.std.specs.Prelude.{Ok, Err}
 use Rattle.promise.specs.Outcome.{unless}
 use Rattle.promise.proofs.Refusing.{Past}
@@ -9,24 +9,24 @@ use Rattle.rules.specs.Numbered.{number}
 use Rattle.rules.specs.declared.Refusal.{Refusal}
 use Rattle.rules.specs.declared.Refusal.TheVariants.{BadRoom, BadPsn}
 use Rattle.connection.proofs.Starting.{not_begun, starts}
-use Rattle.connection.proofs.Connection.opened.Goals as goal
-use Rattle.connection.proofs.Connection.opened.Goals.{After-start}
+use Rattle.connection.proofs.Connection.open.Goals as goal
+use Rattle.connection.proofs.Connection.open.Goals.{After-start}
 
 pub returns-in_err-unless : goal.returns-in_err-unless
 unfolding start start_refusals unless number
-returns-in_err-unless c = not_begun _ _ BadRoom (search rules) (search rules)
+returns-in_err-unless c = not_begun _ _ BadRoom _ (inl c.requires) (search rules) (search rules)
 
 pub returns-in_err-unless-2 : goal.returns-in_err-unless-2
 unfolding start start_refusals unless number
-returns-in_err-unless-2 c = not_begun _ _ BadRoom (search rules) (search rules)
+returns-in_err-unless-2 c = not_begun _ _ BadRoom _ (inl c.requires) (search rules) (search rules)
 
 pub returns-in_err-unless-3 : goal.returns-in_err-unless-3
 unfolding start start_refusals unless number
-returns-in_err-unless-3 c = not_begun _ _ BadPsn (search rules) (search rules)
+returns-in_err-unless-3 c = not_begun _ _ BadPsn _ (inl c.requires) (search rules) (search rules)
 
 pub returns-in_err-unless-4 : goal.returns-in_err-unless-4
 unfolding start start_refusals unless number
-returns-in_err-unless-4 c = not_begun _ _ BadPsn (search rules) (search rules)
+returns-in_err-unless-4 c = not_begun _ _ BadPsn _ (inl c.requires) (search rules) (search rules)
 
 -- no test refuses
 held : {u : Unit {0}} (b : Bool) (e : Refusal) → Ok u ≡ cond b (Ok tt) (Err e) → not b ≡ false
@@ -44,4 +44,4 @@ passed c = (
 )
 
 pub returns : goal.returns
-returns c = starts c.args.opening (passed (goal.at.returns c).After-start) _ _ _ _ c.start.ensures c.start-2.ensures
+returns c = rw c.requires (starts c.args.opening (passed (goal.at.returns c).After-start) _ _ _ _ c.start.ensures c.start-2.ensures)
