@@ -1,7 +1,7 @@
 // What a reply is on paper: its number, and the values that its line shows.
 #![tactic(auto)]
 
-ghost use Rattle.std.specs.Prelude.{◌≡◌, ◌≤◌, length};
+ghost use Rattle.std.specs.Prelude.{◌≡◌, ◌≤◌, [], length};
 ghost use Rattle.rules.specs.Paper.{code as code_of};
 ghost use Rattle.paper.specs.Shown.{most, filled, shown};
 
@@ -47,13 +47,20 @@ fn told(number: u8, values: &[u64]) -> Shown
     }
 }
 
+// What the line of a refusal shows, by the refusal's number: there are 1 to 17, and the promise is for any.
+pub fn refused(number: u8) -> Shown
+    ensures { result ≡ filled number [] }
+{
+    told(number, &[])
+}
+
 // What a reply's line shows.
 #[tactic(auto, unfolding(rules::specs::Paper::paper, promise::specs::Promise::told))]
 pub fn line_of(reply: Result<Answer, Refusal>) -> Shown
     ensures { result ≡ shown reply }
 {
     match reply {
-        Err(refusal) => told(refusal.number(), &[]),
+        Err(refusal) => refused(refusal.number()),
         Ok(Answer::Started | Answer::Closed) => told(0, &[]),
         Ok(Answer::Sent(p) | Answer::Resent(p)) => told(0, &[p.0 as u64]),
         Ok(Answer::Acked(v, k)) => told(

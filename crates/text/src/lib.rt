@@ -1,7 +1,7 @@
 // The text of a replay, line by line, on a page.
 #![tactic(auto)]
 
-ghost use Rattle.std.specs.Prelude.{◌≡◌, take};
+ghost use Rattle.std.specs.Prelude.{◌≡◌, [], ◌∷◌, take};
 ghost use Rattle.lines.specs.Text.{PutsOn};
 ghost use Rattle.rules.specs.Replay.{line, stop as stop_of};
 ghost use Rattle.text.specs.Text.{spaced, line_text, last_text, offset_of, head_text};
@@ -23,16 +23,31 @@ fn push_values(page: &mut Page, s: Shown)
     }
 }
 
+// A line: a kind's number, and what is shown of the reply.
+fn push_shown(page: &mut Page, kind: u8, s: Shown)
+    ensures same_reference { page.new.bytes.ghost_name ≡ page.old.bytes.ghost_name }
+    ensures puts { PutsOn page.old (line_text (kind ∷ s.number ∷ take s.many s.values)) page.new }
+{
+    page.push_number(kind as u64);
+    page.push_next(s.number as u64);
+    push_values(page, s);
+    page.push(b'\n');
+}
+
 // A record's line: its kind, the reply's number and, if that is 0, its values. The kind by its number, since the promise is for any.
 pub fn push_line(page: &mut Page, kind: u8, reply: Result<Answer, Refusal>)
     ensures same_reference { page.new.bytes.ghost_name ≡ page.old.bytes.ghost_name }
     ensures puts { PutsOn page.old (line_text (line (record { kind = kind; answer = reply }))) page.new }
 {
-    let s = paper::line_of(reply);
-    page.push_number(kind as u64);
-    page.push_next(s.number as u64);
-    push_values(page, s);
-    page.push(b'\n');
+    push_shown(page, kind, paper::line_of(reply));
+}
+
+// The line of a record that is refused, its kind and the refusal by their numbers, since the promise is for any.
+pub fn push_refused(page: &mut Page, kind: u8, number: u8)
+    ensures same_reference { page.new.bytes.ghost_name ≡ page.old.bytes.ghost_name }
+    ensures puts { PutsOn page.old (line_text (kind ∷ number ∷ [])) page.new }
+{
+    push_shown(page, kind, paper::refused(number));
 }
 
 // What ends the log: `end N`, or `log R at O`. The refusal by its number, 0 for none, since the promise is for any.
