@@ -4,16 +4,18 @@ use mathlib.Core.List.{List, [], ◌∷◌, ◌++◌}
 use Prim.Native.Nat.{ℕ, ◌+◌, ◌≤◌, ◌<◌}
 use native.Mathlib.Omega.{arith}
 use lib.ListN.{length, length-replicate}
+use Rattle.std.specs.Prelude.{Err}
 use Rattle.rules.specs.Numbers.{program_slots}
 use Rattle.rules.specs.Log.{read}
 use Rattle.rules.specs.Replay.{Replied, Last}
 use Rattle.rules.specs.Outcomes.{Record}
 use Rattle.rules.specs.declared.Event.{Event}
+use Rattle.rules.specs.declared.Refusal.TheVariants.{NoSuchSlot}
 use Rattle.rules.proofs.RoundTrip.{read_kind}
 use Rattle.connection.specs.declared.Connection.{Connection}
 use Rattle.connection.specs.Record.{empty}
 use Rattle.table.specs.Slots.{On}
-use Rattle.table.proofs.Slots.{empty_sound}
+use Rattle.table.proofs.Slots.{empty_sound, past_end}
 use Rattle.player.specs.declared.State.{State}
 use Rattle.player.specs.Play.{begin, Sound, Turned, Plays, goes_on}
 use Rattle.player.specs.Piece.{Turns, none, one_more}
@@ -45,6 +47,13 @@ turned log x slot e kind next l after s h k m long = record {
     count_low = omega (arith, s.count_low, read_further log x.place slot e kind next h);
   };
 }
+
+-- a slot past the program's
+pub turned_past : (log : List ℕ) (x : State) (slot : ℕ) (e : Event) (kind next : ℕ) → Sound x → read log x.place ≡ Record slot e kind next
+    → program_slots ≤ slot
+    → Turned log x (record { kind = kind; answer = Err NoSuchSlot }) (record { slots = x.slots; place = next; count = x.count + 1 })
+turned_past log x slot e kind next s h far =
+    turned log x slot e kind next _ x.slots s h refl (past_end x.slots slot e s.slots_sound (omega (arith, s.many)) _ refl) refl
 
 -- ---- turns, one after the other
 -- from one place in the log to a later one
