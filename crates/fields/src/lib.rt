@@ -28,6 +28,10 @@ fn field(bytes: &[u8], from: usize, width: usize) -> u64
     requires { InBytes from width (length bytes.now) }
     ensures { result ≡ cut (8 * length bytes.now - (from + width)) width (number bytes.now) }
 {
+    // most kinds of a record have fewer fields than there are places for
+    if width == 0 {
+        return 0;
+    }
     let end = from + width;
     // The bytes that the field lies in are nine at most, and make one number.
     let last = end.div_ceil(8);

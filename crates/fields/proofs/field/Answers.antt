@@ -1,7 +1,7 @@
 -- `fields::field` meets its contract: the bytes that the field lies in are one number, and the field is cut out of it. Assumes nothing.
 use Rattle.std.proofs.Common.{rules, ◌≡◌, ◌+◌, ◌-◌, ◌*◌, ◌/◌, ◌%◌, ◌^◌, ◌≤◌, ◌<◌, ℕ, List, [], ◌∷◌, length, take, drop, suc, refl, ap, ◌∙◌, arith, bit_or, bit_and, fold}
 use Rattle.std.proofs.lemmas.Grind.{or_after_shift}
-use native.Mathlib.Nat.{pow-suc, pow-le-pow_right, one-mul}
+use native.Mathlib.Nat.{pow-suc, pow-le-pow_right, one-mul, mod-one}
 use lib.Bits.{and_mask}
 use lib.ListN.{length-take}
 use lib.Pow.{shl_exact}
@@ -29,6 +29,10 @@ masked : (n t w : ℕ) → w ≤ 64 → bit_and (n / 2 ^ t) (1 * 2 ^ w % 2 ^ 128
 unfolding cut
 masked n t w h =
     ap (λ (x : ℕ). bit_and (n / 2 ^ t) (x - 1)) (shl_exact {a = 1} 1 w 128 (omega arith) (omega arith) ∙ one-mul (2 ^ w)) ∙ and_mask (n / 2 ^ t) w
+
+pub returns-then-width-eq0 : goal.returns-then-width-eq0
+unfolding cut
+returns-then-width-eq0 c = rw (c.if-width-eq0.true, mod-one) refl
 
 pub returns : goal.returns
 returns c =
