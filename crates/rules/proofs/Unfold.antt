@@ -2,7 +2,7 @@
 use Rattle.word.specs.Word.{bit_at}
 use Rattle.rules.specs.Numbers.{after, distance, room_ok, size_ok, flags_ok, reason_ok}
 use Rattle.lists.specs.Lists.{lead, slide, pack, any, sum, update}
-use Rattle.promise.specs.Outcome.{unless, first_of, left, within}
+use Rattle.promise.specs.Outcome.{unless, first_of, left, within, on_paper}
 use Rattle.promise.specs.Promise.{told}
 use Rattle.rules.specs.Numbered.{number as number_of, refusal}
 use Rattle.fields.specs.Fields.{number, spell, joined, parted}
@@ -25,7 +25,7 @@ use Rattle.rules.specs.Replay.{line, stop, then, replied, replay_from, replay}
 unfoldable pub rules : Unit {0}
 unfolding bit_at after distance room_ok size_ok flags_ok reason_ok
     lead slide pack any sum update
-    unless first_of left within told number_of refusal
+    unless first_of left within on_paper told number_of refusal
     number spell joined parted fields.encode fields.decode
     receiver.fresh receiver.start_refusals receiver.start receiver.judge receiver.known receiver.beyond receiver.verdict receiver.accept
     receiver.counted receiver.block_at receiver.block receiver.sack_of receiver.reason_of receiver.nack_of receiver.acked receiver.judged

@@ -3,7 +3,7 @@
 -- record and the known half of R6", and No. 8 the line of a SACK.
 use Rattle.std.specs.Prelude.{◌≡◌, true, false, List, [], ◌∷◌, ◌++◌, map, ℕ, zero, suc, ◌+◌, ◌-◌, ◌^◌, length, replicate}
 use Rattle.promise.specs.Line.{Line, refused, done}
-use Rattle.promise.specs.Outcome.{left}
+use Rattle.promise.specs.Outcome.{left, on_paper}
 use Rattle.rules.specs.Numbers.{turn, half, after, psn}
 use Rattle.lists.specs.Lists.{pack}
 use Rattle.rules.specs.Receiver.{Receiver, room}
@@ -12,7 +12,7 @@ use Rattle.rules.specs.Sender.{Sender}
 use Rattle.rules.specs.Retire.{report}
 use Rattle.rules.specs.Connection.{Connection, empty, start, step}
 use Rattle.rules.specs.Kinds.{plain}
-use Rattle.rules.specs.Paper.{answered, reply_line, read_line}
+use Rattle.rules.specs.Paper.{paper, reply_line, read_line}
 use Rattle.rules.specs.Log.{read, whole}
 use Rattle.rules.specs.Replay.{Replied, Last, End, Log, replay}
 use Rattle.rules.specs.Limits.{Limits}
@@ -63,7 +63,7 @@ kept expected room window count = done 0 (expected ∷ room ∷ window ∷ count
 unfoldable pub lines : Connection → List Row → List Line
 lines c [] = []
 lines c (r ∷ l) = elim r.asked [
-  | Event e ↦ reply_line (answered (step c e)) ∷ lines (left c (step c e)) l
+  | Event e ↦ on_paper paper (step c e) ∷ lines (left c (step c e)) l
   | Look ↦ kept c.receiver.expected (room c.receiver) (pack c.receiver.window) c.receiver.count ∷ lines c l
 ]
 

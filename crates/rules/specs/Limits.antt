@@ -3,18 +3,19 @@ use Rattle.std.specs.Prelude.{◌≡◌, List, [], ◌∷◌, map, ℕ, replicat
 use Rattle.rules.specs.Numbers.{slots, program_slots, psn}
 use Rattle.rules.specs.Connection.{empty}
 use Rattle.rules.specs.Kinds.{plain}
+use Rattle.promise.specs.Outcome.{on_paper}
 use Rattle.rules.specs.Table.{on}
-use Rattle.rules.specs.Paper.{answered, reply_line}
+use Rattle.rules.specs.Paper.{paper, reply_line}
 use Rattle.rules.specs.Replay.{Replied, replay}
 use Rattle.rules.specs.declared.Event.TheVariants as event
 
 -- the number that a start with these two rooms gets in a slot of a table of so many, all empty
 abbrev pub started : ℕ → ℕ → ℕ → ℕ → ℕ
-started many slot send receive = (reply_line (answered (on (replicate many empty) slot (event.Start (record {
+started many slot send receive = (on_paper paper (on (replicate many empty) slot (event.Start (record {
   sending = record { room = send; first = psn 10 };
   receiving = record { room = receive; first = psn 10 };
   options = plain;
-}))))).number
+})))).number
 
 abbrev pub with_send_room : ℕ → ℕ
 with_send_room room = started slots 0 room 64
